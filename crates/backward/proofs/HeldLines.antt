@@ -1,5 +1,5 @@
 -- The text of a program's error lines, held while they are found from the last to the first.
-use Rattle.std.proofs.Common.{◌≡◌, ℕ, ◌+◌, ◌<◌, ◌≤◌, List, [], ◌∷◌, ◌++◌, length, ap, ap₂, subst, sym, ◌∙◌, append_assoc}
+use Rattle.std.proofs.Common.{◌≡◌, ℕ, ◌+◌, ◌<◌, List, [], ◌∷◌, ◌++◌, length, ap, ap₂, subst, sym, ◌∙◌, append_assoc}
 use Rattle.std.specs.Prelude.{reverse}
 use Rattle.std.specs.List.{flat_map}
 use Rattle.std.proofs.lemmas.List.{reverse-reverse, reverse-append}
@@ -9,7 +9,7 @@ use Rattle.error_models.specs.ErrorLines.{text_at}
 use Rattle.error_models.specs.HeldText.{Held, HoldsLines}
 use Rattle.error_models.specs.ModelText.{line_text}
 use Rattle.backward.specs.private.Stretches.{Gives, lines_at, lines_between, text_between}
-use Rattle.backward.proofs.PassLines.{lines_back-more, lines_between-parts}
+use Rattle.backward.proofs.PassLines.{lines_back-more}
 
 -- no line
 pub holds_none : (held : Held) → held.text ≡ [] → HoldsLines held []
@@ -40,15 +40,3 @@ lines_more program k next to first old new e within gives held given h =
     (append_assoc given (reverse (lines_between program next to)) (lines_at program k)
     ∙ ap (λ (l : List ErrorLine). given ++ l) (ap (λ j. reverse (lines_between program j to) ++ lines_at program k) e ∙ lines_back-more program k to within))
     (gives (given ++ reverse (lines_between program next to)) (held given h))
-
--- the lines of a stretch more, behind those of one that follows it
-pub lines_parts : (program : Listing) (k next to : ℕ) (first old new : Held) → k ≤ next → next ≤ to
-    → ((given : List ErrorLine) → HoldsLines old given → HoldsLines new (given ++ reverse (lines_between program k next)))
-    → ((given : List ErrorLine) → HoldsLines first given → HoldsLines old (given ++ reverse (lines_between program next to)))
-    → (given : List ErrorLine) → HoldsLines first given → HoldsLines new (given ++ reverse (lines_between program k to))
-lines_parts program k next to first old new early late more held given h =
-    subst (HoldsLines new)
-    (append_assoc given (reverse (lines_between program next to)) (reverse (lines_between program k next))
-    ∙ ap (λ (l : List ErrorLine). given ++ l)
-    (sym (reverse-append (lines_between program k next) (lines_between program next to)) ∙ ap reverse (lines_between-parts program k next to early late)))
-    (more (given ++ reverse (lines_between program next to)) (held given h))

@@ -12,6 +12,5 @@ pub mod PassSteps
 pub mod PassWords
 mod PointLemmas
 mod RecordMembers
-pub mod Sensitivities
 mod StepLemmas
 mod StretchLemmas

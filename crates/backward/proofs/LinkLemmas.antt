@@ -128,6 +128,9 @@ list_at-read links place read rest whole back some within so_far next =
     ∙ (ap (λ l. read ++ l) (sym (list_at-first links place back some within)) ∙ so_far))
 
 -- ---- the set of a record
+pub rows_counted : (m : ℕ) (links : List Link) (places : List ℕ) (rows : List (List Bool)) → rows_at m links places ≡ rows → length places ≡ length rows
+rows_counted m links places rows is = sym (length-map places (λ k. row_of_set m (list_at links k))) ∙ ap length is
+
 -- the row of a list at a place that is read from the places
 pub row_at : (m rec place : ℕ) (links : List Link) (places : List ℕ) (rows : List (List Bool)) → rows_at m links places ≡ rows → rec < length rows → place ≡ get_or places rec place
     → row_of_set m (list_at links place) ≡ get_or rows rec []
@@ -138,12 +141,20 @@ row_at m rec place links places rows is low read =
     row k = row_of_set m (list_at links k)
 
     within : rec < length places
-    within = omega (arith, low, ap length is, length-map places row)
+    within = omega (arith, low, rows_counted m links places rows is)
+
+-- where targets are low in the view of a set, its record has a place, and they are below the number of targets
+pub low_at : (m rec place : ℕ) (links : List Link) (places : List ℕ) (rows : List (List Bool)) (targets : List ℕ) → rows_at m links places ≡ rows → rec < length rows → place ≡ get_or places rec place
+    → All (λ t. t < length (get_or rows rec [])) targets → (rec < length places) × All (λ t. t < m) targets
+low_at m rec place links places rows targets is low read below =
+    let row = row_at m rec place links places rows is low read in
+    (omega (arith, low, rows_counted m links places rows is),
+     subst (λ n. All (λ t. t < n) targets) (sym (ap length row) ∙ length-row_of_set m (list_at links place)) below)
 
 pub below_at : (m rec place : ℕ) (links : List Link) (places : List ℕ) (rows : List (List Bool)) → AreLists m links places → rows_at m links places ≡ rows → rec < length rows → place ≡ get_or places rec place
     → All (λ t. t < m) (list_at links place)
 below_at m rec place links places rows lists is low read =
-    let within : rec < length places = omega (arith, low, ap length is, length-map places (λ k. row_of_set m (list_at links k))) in
+    let within : rec < length places = omega (arith, low, rows_counted m links places rows is) in
     subst (λ k. All (λ t. t < m) (list_at links k)) (sym read) (lists.below rec place within)
 
 pub falls_below : (m : ℕ) (list : List ℕ) → Falls list → All (λ t. t < m) list → DescendsBelow m list

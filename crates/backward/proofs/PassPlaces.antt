@@ -22,7 +22,7 @@ use Rattle.trackers.specs.Tracked.{Tracked, is_among, anticommuting}
 use Rattle.backward.proofs.PassLines.{anticommuting-before}
 use Rattle.step_model.proofs.RangeLemmas.{among_range}
 use Rattle.trackers.proofs.RangeLemmas.{All-range}
-use Rattle.backward.proofs.Sensitivities.{length-sensitivity}
+use Rattle.step_model.proofs.SensitivityLengths.{length-sensitivity}
 use Rattle.trackers.proofs.WordLemmas.{one_term}
 
 abbrev target_count : Listing → ℕ

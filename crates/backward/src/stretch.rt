@@ -25,39 +25,18 @@ const POINTS: usize = 60;
 /// A point takes little where there are no more qubits than these.
 const FEW_QUBITS: u32 = 256;
 
-// Goes back to a place, and finds the lines on the way.
-#[inline(always)]
-fn go_back_to<'s, 'p, 'a, A: Allocator + Copy, T: Tracker>(
-    program: &Program<'a, A>,
-    to: usize,
-    at: &mut Point<'p, 'a, A, T>,
-    found: &mut Found<'s, A>,
-    lines: &mut TextStore<'_, 'a, A>,
-) -> Result<(), AllocError>
-    requires program { at.old.walk.program ≡ program.now }
-    requires to { to ≤ at.old.walk.place }
-    requires store { lines.old.program.now ≡ program.now }
-    requires passed { IsPassed program.now.listing at.old.walk.place (T.tracked at.old.tracker)
-        found.old }
-    ensures program { at.new.walk.program ≡ at.old.walk.program }
-    ensures place { OnOk result (at.new.walk.place ≡ to) }
-    ensures back { at.new.walk.place ≤ at.old.walk.place }
-    ensures passed { OnOk result
-        (IsPassed program.now.listing at.new.walk.place (T.tracked at.new.tracker) found.new) }
-    ensures stays { Stays found.old found.new }
-    ensures lines { OnOk result
-        ((given : List ErrorLine)
-        → HoldsLines lines.old.text given
-        → HoldsLines lines.new.text
-        (given
-        ++ reverse
-        (lines_between program.now.listing at.new.walk.place at.old.walk.place))) }
-    ensures store { lines.new.program.now ≡ lines.old.program.now }
+// Counts a step, and answers whether it is the last of as many as `stride`; then it counts anew.
+fn is_last_of(stride: usize, left: &mut usize) -> bool
+    requires stride { 0 < stride }
+    requires left { 0 < left.old }
+    ensures { 0 < left.new }
 {
-    while at.walk.place() > to {
-        step_back(program, at, found, lines)?;
+    *left -= 1;
+    if *left > 0 {
+        return false;
     }
-    Ok(())
+    *left = stride;
+    true
 }
 
 /// Goes back to `from`, over one step at least where there is one, until the text of the lines found is full, or some
@@ -92,18 +71,14 @@ fn find_back<'s, 'p, 'a, A: Allocator + Copy, T: Tracker>(
 {
     let to = at.walk.place();
     let stride = lines.stride();
+    let mut left = stride;
     let mut next = 0;
     while at.walk.place() > from {
-        let place = at.walk.place();
-        go_back_to(
-            program,
-            place.saturating_sub(stride).max(from),
-            at,
-            found,
-            lines,
-        )?;
+        step_back(program, at, found, lines)?;
         let steps = to.saturating_sub(at.walk.place());
-        if lines.is_full(&mut next, steps, to - from) || found.is_random() {
+        if is_last_of(stride, &mut left)
+            && (lines.is_full(&mut next, steps, to - from) || found.is_random())
+        {
             return Ok(());
         }
     }

@@ -3,8 +3,8 @@ use Rattle.std.proofs.Common.{◌≡◌, ◌<◌, false, List, [], ◌∷◌, ar
 use Rattle.std.specs.List.{list_any}
 use Rattle.std.proofs.lemmas.Bool.{ltb-false}
 use Rattle.stim_lexer.specs.Fitting.{IsTurns, LinesFit}
-use Rattle.stim_lexer.proofs.QuestionLemmas.{neither, not_not}
-use Rattle.stim_parser.proofs.FitLemmas.{OpensFitting, TakesFitting, readings_fit}
+use Rattle.stim_lexer.proofs.QuestionLemmas.{neither}
+use Rattle.stim_parser.proofs.FitLemmas.{OpensFitting, TakesFitting, readings_fit, taken}
 use Rattle.stim_parser.specs.Numbers.{greatest_number}
 use Rattle.dem_text.specs.Fitting.{Fits}
 use Rattle.dem_text.specs.Texts.{models}
@@ -26,14 +26,7 @@ unfolding has_target_beyond
 opens_fitting targets h some = few_turns targets h some
 
 takes_fitting : TakesFitting model_table Fits
-takes_fitting depth number operation cut e h =
-    record {
-      arguments = (neither _ _ h.0).1;
-      probability = h.1.0;
-      arguments_within = (neither _ _ h.1.1.1.0).0;
-      targets = not_not _ (neither _ _ h.1.1.0).1;
-      targets_within = (neither _ _ h.1.1.1.0).1;
-    }
+takes_fitting depth number operation cut e h = taken model_table depth number operation cut h
 
 pub reading_fits : LinesFit Fits models
 reading_fits = readings_fit model_table Fits takes_fitting opens_fitting

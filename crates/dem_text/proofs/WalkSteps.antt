@@ -5,8 +5,8 @@ use Rattle.std.proofs.lemmas.List.{length-reverse, reverse-append}
 use Rattle.std.proofs.lemmas.Bool.Decides.{nat_tests}
 use Rattle.stim_lexer.specs.Flat.{first_tree, onto, trees_of}
 use Rattle.stim_lexer.specs.Stored.{read_back}
-use Rattle.dem_text.specs.Fitting.{IsAccepted}
-use Rattle.dem_text.specs.private.Passes.{CanStand}
+use Rattle.dem_text.specs.Fitting.{Fits, IsAccepted}
+use Rattle.stim_lexer.specs.private.Passes.{AreWhole, CanStand}
 use Rattle.dem_text.specs.declared.table_line.Stand.{Stand}
 use Rattle.dem_text.specs.declared.table_line.Stand.TheVariants as stand
 use Rattle.dem_text.specs.private.TableLines.{CanStandAt, HasNoLine, stand_of}
@@ -17,7 +17,6 @@ use Rattle.dem_text.specs.Texts.{Item}
 use Rattle.stim_lexer.specs.Trees.{InstructionLine, BlockStart, BlockEnd, Nothing, Then, Block, items_of}
 use Rattle.dem_text.specs.Trees.{Tree}
 use Rattle.dem_text.specs.Verdicts.{Instruction}
-use Rattle.dem_text.specs.private.Passes.{AreWhole}
 use Rattle.dem_text.proofs.PassLemmas.{can_stand, drop_got, whole-tree}
 use Rattle.dem_text.specs.declared.walk.Turns.{Turns}
 use Rattle.dem_text.specs.private.Offsets.{HasRoom}
@@ -61,7 +60,7 @@ left-first t =
 -- ---- one item
 
 -- there is a tree for each open block, and one more
-trees-long : (items : List Item) (d : ℕ) → AreWhole items d → length (trees_of items) ≡ suc d
+trees-long : (items : List Item) (d : ℕ) → AreWhole Fits items d → length (trees_of items) ≡ suc d
 trees-long [] d whole = ap suc (sym whole)
 trees-long (InstructionLine i ∷ items) d whole = one (trees_of items) (trees-long items d whole.1)
   where
@@ -120,7 +119,7 @@ pub record HasGone (items : List Item) (left : List Item) (item : Item) (place :
 
 -- after the end of a turn
 goes-ends : (items : List Item) (place : ℕ) (blocks : List Turns) (start left : ℕ) (ts : List Tree) → trees_at items (place + 1) ≡ ts
-    → drop 1 (trees_at items start) ≡ ts → AreWhole (drop start items) (suc (length blocks)) → AreWhole (drop (place + 1) items) (length blocks) → AreOpen items blocks (drop 1 ts) → suc (length blocks) ≤ 32
+    → drop 1 (trees_at items start) ≡ ts → AreWhole Fits (drop start items) (suc (length blocks)) → AreWhole Fits (drop (place + 1) items) (length blocks) → AreOpen items blocks (drop 1 ts) → suc (length blocks) ≤ 32
     → HasGone items (left_behind items (record { start = start; left = left } ∷ blocks) ts) BlockEnd (after_turn start left place blocks)
 goes-ends items place blocks start zero ts here same again out inside few =
     record {
@@ -146,7 +145,7 @@ goes : (items : List Item) (place : ℕ) (blocks : List Turns) (item : Item) →
 goes items place blocks (InstructionLine i) at walk =
     let ts = trees_at items (place + 1) in
     let here : trees_at items place ≡ onto (InstructionLine i) ts = ap (λ (is : List Item). trees_of is) at in
-    let whole = subst (λ (is : List Item). AreWhole is (length blocks)) at walk.whole in
+    let whole = subst (λ (is : List Item). AreWhole Fits is (length blocks)) at walk.whole in
     record {
       left_is =
           ap (λ (us : List Tree). gone_over (first_tree us) ++ left_behind items blocks (drop 1 us)) here
@@ -160,7 +159,7 @@ goes items place blocks (InstructionLine i) at walk =
 goes items place blocks (BlockStart line turns) at walk =
     let ts = trees_at items (place + 1) in
     let here : trees_at items place ≡ onto (BlockStart line turns) ts = ap (λ (is : List Item). trees_of is) at in
-    let whole = subst (λ (is : List Item). AreWhole is (length blocks)) at walk.whole in
+    let whole = subst (λ (is : List Item). AreWhole Fits is (length blocks)) at walk.whole in
     record {
       left_is =
           ap (λ (us : List Tree). gone_over (first_tree us) ++ left_behind items blocks (drop 1 us)) here
@@ -176,11 +175,11 @@ goes items place blocks (BlockStart line turns) at walk =
         few = omega (arith, whole.1);
       };
     }
-goes items place [] BlockEnd at walk = absurd (subst (λ (is : List Item). AreWhole is 0) at walk.whole)
+goes items place [] BlockEnd at walk = absurd (subst (λ (is : List Item). AreWhole Fits is 0) at walk.whole)
 goes items place (b ∷ blocks) BlockEnd at walk =
     let ts = trees_at items (place + 1) in
     let here : trees_at items place ≡ Nothing ∷ ts = ap (λ (is : List Item). trees_of is) at in
-    let whole = subst (λ (is : List Item). AreWhole is (suc (length blocks))) at walk.whole in
+    let whole = subst (λ (is : List Item). AreWhole Fits is (suc (length blocks))) at walk.whole in
     let inside = subst (AreOpen items (b ∷ blocks)) (ap (λ (us : List Tree). drop 1 us) here) walk.inside in
     let next = goes-ends items place blocks b.start b.left ts refl inside.0 inside.1 whole inside.2 walk.few in
     record {
@@ -244,7 +243,7 @@ goes-on items place blocks item place' blocks' walk got e =
       other = λ is. ap lines_among next.left_is ∙ other-first item (items_left items place' blocks') is;
     }
 
-pub can_stand_at : (item : Item) (inside : ℕ) → CanStand item inside → CanStandAt (stand_of item) inside
+pub can_stand_at : (item : Item) (inside : ℕ) → CanStand Fits item inside → CanStandAt (stand_of item) inside
 can_stand_at (InstructionLine i) inside h = tt
 can_stand_at (BlockStart line turns) inside h = h
 can_stand_at BlockEnd inside h = h
@@ -282,8 +281,8 @@ goes-can items place blocks item inside walk got e =
     let same : length (reverse blocks) ≡ inside = length-reverse blocks ∙ sym e in
     can_stand_at item inside
     (can_stand item (drop (suc place) items) inside
-    (subst (λ d. AreWhole (item ∷ drop (suc place) items) d) same
-    (subst (λ (is : List Item). AreWhole is (length (reverse blocks))) (drop_got items place item got) walk.whole)))
+    (subst (λ d. AreWhole Fits (item ∷ drop (suc place) items) d) same
+    (subst (λ (is : List Item). AreWhole Fits is (length (reverse blocks))) (drop_got items place item got) walk.whole)))
 
 drop-none : (items : List Item) (place : ℕ) → None ≡ slice_get items place → drop place items ≡ []
 drop-none [] zero e = refl
@@ -295,7 +294,7 @@ pub goes-none : (items : List Item) (place : ℕ) (blocks : List Turns) → IsWa
 goes-none items place blocks walk e =
     let at = drop-none items place e in
     ap (λ (is : List Item). lines_among (gone_over (first_tree (trees_of is)) ++ left_behind items blocks (drop 1 (trees_of is)))) at
-    ∙ ended blocks (subst (λ (is : List Item). AreWhole is (length blocks)) at walk.whole)
+    ∙ ended blocks (subst (λ (is : List Item). AreWhole Fits is (length blocks)) at walk.whole)
   where
     ended : (bs : List Turns) → length bs ≡ 0 → lines_among (left_behind items bs []) ≡ []
     ended [] none = refl

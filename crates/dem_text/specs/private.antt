@@ -15,4 +15,3 @@ pub mod Turned
 pub mod Unrolled
 pub mod Walks
 pub mod Flat
-pub mod Passes

@@ -4,7 +4,7 @@ use Rattle.std.proofs.Common.{◌≡◌, ℕ, List, Option, None, Some, Result, 
 use Rattle.std.specs.Prelude.{IfSome, IfOk}
 use Rattle.step_model.specs.declared.fault.Fault.{Fault}
 use Rattle.step_model.specs.declared.step.Place.{Place}
-use Rattle.step_model.specs.Ends.{HandsOut, IsAtEnd}
+use Rattle.step_model.specs.Ends.{HandsOut, IsAtEnd, Takes}
 use Rattle.step_model.specs.Listing.{Listing}
 use Rattle.step_model.proofs.EndsLemmas.{HandsOut-all}
 use Rattle.engine.specs.declared.order.Order.{Order}
@@ -14,6 +14,7 @@ use Rattle.engine.specs.declared.order.Status.TheVariants.{Done, Refused, Random
 use Rattle.engine.specs.Headline.{HasRandomTarget, IsDecided, IsExactFor, IsRandomFor}
 use Rattle.engine.specs.Output.{finding, output_of, refused_or}
 use Rattle.engine.specs.Findings.{lowest_placed}
+use Rattle.engine.specs.private.Answered.{Answers, AnswersOrder}
 use Rattle.engine.proofs.FindingLemmas.{found_of_text}
 
 pub of_told : (P : List ℕ → Type 0) (left new : Option (List ℕ)) (bytes : List ℕ) → HandsOut left new bytes → IsAtEnd new → P bytes → IfSome left P
@@ -75,6 +76,15 @@ decided Goes order text (Ok status) is exact random =
 decided Goes order text (Err fault) is exact random = tt
 
 -- an order that isn't an analysis promises nothing of one
-pub not_asked : (order other : Order) (P : Status → Type 0) (r : Result Status Fault) → order ≡ other → (other ≡ Analyze → ⊥) → IfOk r (λ status. order ≡ Analyze → P status)
+not_asked : (order other : Order) (P : Status → Type 0) (r : Result Status Fault) → order ≡ other → (other ≡ Analyze → ⊥) → IfOk r (λ status. order ≡ Analyze → P status)
 not_asked order other P (Ok status) is differs = λ asked. absurd (differs (sym is ∙ asked))
 not_asked order other P (Err fault) is differs = tt
+
+pub only_answered : {S : Type 0} {taken : S → Option (List ℕ)} {failures : S → ℕ} {old new : S} {order : Order} {text : List ℕ} {result : Result Status Fault} (other : Order)
+    → order ≡ other → (other ≡ Analyze → ⊥) → Answers taken failures old new (output_of other text) result → AnswersOrder taken failures old new order text result
+only_answered {S} {taken} {failures} {old} {new} {order} {text} {result} other is differs answers =
+    record {
+      answered = subst (λ (o : Order). Answers taken failures old new (output_of o text) result) (sym is) answers;
+      exact = not_asked order other (λ status. status ≡ Done → (bytes : List ℕ) × Takes (taken old) (taken new) bytes × IsExactFor text bytes) result is differs;
+      random = not_asked order other (λ status. status ≡ Random → (bytes : List ℕ) × Takes (taken old) (taken new) bytes × IsRandomFor text bytes) result is differs;
+    }

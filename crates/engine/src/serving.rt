@@ -6,7 +6,7 @@ ghost use Rattle.engine.specs.declared.order.Order.TheVariants.{Analyze};
 ghost use Rattle.engine.specs.declared.order.Status.TheVariants.{Done, Random};
 ghost use Rattle.engine.specs.Headline.{IsDecided, IsExactFor, IsRandomFor};
 ghost use Rattle.engine.specs.Output.{output_of};
-ghost use Rattle.engine.specs.private.Answered.{Answers};
+ghost use Rattle.engine.specs.private.Answered.{AnswersOrder};
 
 use crate::analysis::answer_analysis;
 use crate::drawing::answer_shots;
@@ -71,12 +71,7 @@ fn answer<W: Sink, A: Allocator + Copy>(
     text: &[u8],
     sink: &mut W,
 ) -> Result<Status, Fault>
-    ensures answered { Answers W.taken W.failures sink.old sink.new
-        (output_of order.now text.now) result }
-    ensures exact { IfOk result (λ status. order.now ≡ Analyze → status ≡ Done →
-        (bytes : List ℕ) × Takes (W.taken sink.old) (W.taken sink.new) bytes × IsExactFor text.now bytes) }
-    ensures random { IfOk result (λ status. order.now ≡ Analyze → status ≡ Random →
-        (bytes : List ℕ) × Takes (W.taken sink.old) (W.taken sink.new) bytes × IsRandomFor text.now bytes) }
+    ensures { AnswersOrder W.taken W.failures sink.old sink.new order.now text.now result }
 {
     match *order {
         Order::Run { coins, faults } => answer_run(alloc, coins, faults, text, sink),

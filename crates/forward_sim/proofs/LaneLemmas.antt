@@ -36,17 +36,24 @@ draws_missed j start end hits words none =
       others = λ i k h. refl;
     }
 
+-- a lane that was drawn into over spans that meet
+pub lane_joined : (j start at end : ℕ) (hits : ℕ → Bool) (old middle new : List ℕ)
+    → ((k : ℕ) → start ≤ k → k < at → lane_bit j (get_or middle k 0) ≡ (hits k || lane_bit j (get_or old k 0))) → ((k : ℕ) → at ≤ k → get_or middle k 0 ≡ get_or old k 0)
+    → ((k : ℕ) → k < at → get_or new k 0 ≡ get_or middle k 0) → ((k : ℕ) → at ≤ k → k < end → lane_bit j (get_or new k 0) ≡ (hits k || lane_bit j (get_or middle k 0)))
+    → (k : ℕ) → start ≤ k → k < end → lane_bit j (get_or new k 0) ≡ (hits k || lane_bit j (get_or old k 0))
+lane_joined j start at end hits old middle new drawn above below further k h l =
+    ⊎_elim
+    (λ (m : k < at). ap (lane_bit j) (below k m) ∙ drawn k h m)
+    (λ (m : at ≤ k). further k m l ∙ ap (λ w. hits k || lane_bit j w) (above k m))
+    (cases_lt k at)
+
 pub draws_joined : (j start at end : ℕ) (hits : ℕ → Bool) (old middle new : List ℕ) → start ≤ at → at ≤ end
     → DrawsInto j start at hits old middle → DrawsInto j at end hits middle new → DrawsInto j start end hits old new
 draws_joined j start at end hits old middle new p q before after =
     record {
       size = after.size ∙ before.size;
       below = λ k h. after.below k (omega arith) ∙ before.below k h;
-      inside = λ k h l.
-          ⊎_elim
-          (λ (m : k < at). ap (lane_bit j) (after.below k m) ∙ before.inside k h m)
-          (λ (m : at ≤ k). after.inside k m l ∙ ap (λ w. hits k || lane_bit j w) (before.above k m))
-          (cases_lt k at);
+      inside = lane_joined j start at end hits old middle new before.inside before.above after.below after.inside;
       above = λ k h. after.above k h ∙ before.above k (omega arith);
       others = λ i k ne. after.others i k ne ∙ before.others i k ne;
     }

@@ -6,6 +6,7 @@ pub mod NumberLemmas
 pub mod NumberedWords
 pub mod ReferenceSteps
 pub mod SameStates
+pub mod RunLoops
 pub mod RunRecords
 pub mod WalkedSteps
 pub mod TermWords

@@ -9,7 +9,7 @@ use Rattle.forward_sim.specs.declared.span.Span.{Span}
 use Rattle.forward_sim.specs.Drawn.{after_words}
 use Rattle.forward_sim.specs.private.LaneDraws.{DrawsInto, coin_hits, toss_hits}
 use Rattle.forward_sim.specs.private.PairDraws.{DrawsIntoBoth}
-use Rattle.forward_sim.proofs.LaneLemmas.{lane_filled, lane_same, passed-between, tossed-first, tossed-last}
+use Rattle.forward_sim.proofs.LaneLemmas.{lane_filled, lane_joined, lane_same, passed-between, tossed-first, tossed-last}
 
 pub both_nothing : (i j start : ℕ) (hits other_hits : ℕ → Bool) (words : List ℕ) → DrawsIntoBoth i j start start hits other_hits words words
 both_nothing i j start hits other_hits words =
@@ -41,16 +41,8 @@ both_joined i j start at end hits other_hits old middle new p q before after =
     record {
       size = after.size ∙ before.size;
       below = λ k h. after.below k (omega arith) ∙ before.below k h;
-      first = λ k h l.
-          ⊎_elim
-          (λ (m : k < at). ap (lane_bit i) (after.below k m) ∙ before.first k h m)
-          (λ (m : at ≤ k). after.first k m l ∙ ap (λ w. hits k || lane_bit i w) (before.above k m))
-          (cases_lt k at);
-      second = λ k h l.
-          ⊎_elim
-          (λ (m : k < at). ap (lane_bit j) (after.below k m) ∙ before.second k h m)
-          (λ (m : at ≤ k). after.second k m l ∙ ap (λ w. other_hits k || lane_bit j w) (before.above k m))
-          (cases_lt k at);
+      first = lane_joined i start at end hits old middle new before.first before.above after.below after.first;
+      second = lane_joined j start at end other_hits old middle new before.second before.above after.below after.second;
       above = λ k h. after.above k h ∙ before.above k (omega arith);
       others = λ l k h m. after.others l k h m ∙ before.others l k h m;
     }

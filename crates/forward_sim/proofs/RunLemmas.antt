@@ -85,6 +85,12 @@ words_behind g rng start end low e =
     ∙ (sym (after_words-add start (end - start) g)
     ∙ ap (λ n. after_words n g) whole)
 
+-- the same, where a generator passes over the words behind the first ones
+pub words_passed : (g rng then : Lcg) (start end : ℕ) → start ≤ end → rng ≡ after_words (start - 0) g → then ≡ after_words (end - start) rng → then ≡ after_words end g
+words_passed g rng then start end low e step =
+    let none : start - 0 ≡ start = omega arith in
+    step ∙ words_behind g rng start end low (e ∙ ap (λ n. after_words n g) none)
+
 -- no word is below 0
 pub none_below : (word bound : ℕ) → bound ≡ 0 → nat_lt word bound ≡ false
 none_below word bound none = le-ltb word bound (omega arith)

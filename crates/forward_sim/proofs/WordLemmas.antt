@@ -1,5 +1,5 @@
 -- A generator's words, one after another.
-use Rattle.std.proofs.Common.{◌≡◌, ℕ, zero, suc, ◌+◌, ◌<◌, List, [], ◌∷◌, ◌++◌, length, map, take, set, refl, sym, ap, ap₂, ◌∙◌, arith}
+use Rattle.std.proofs.Common.{◌≡◌, ℕ, zero, suc, ◌+◌, ◌<◌, Bool, List, [], ◌∷◌, ◌++◌, length, length-set, map, take, set, refl, sym, ap, ap₂, ◌∙◌, arith}
 use Rattle.std.specs.List.{range_with_len}
 use Rattle.std.proofs.lemmas.List.{take_more_set}
 use Rattle.std.proofs.lemmas.List.FromFn.{map-range_with_len_more}
@@ -61,3 +61,23 @@ filled_more f xs i y below here so_far =
     take_more_set xs i y below
     ∙ (ap₂ (λ front last. front ++ last ∷ []) so_far here
     ∙ sym (map-range_with_len_more f 0 i i (omega arith)))
+
+-- a list of n truth values, of which the first k are read off the words from g on; rng is behind these
+pub record IsFilled (read : ℕ → ℕ → Bool) (n : ℕ) (g : Lcg) (k : ℕ) (rng : Lcg) (truths : List Bool) : Type 0 where
+  pub size : length truths ≡ n
+  pub drawn : take k truths ≡ map (λ i. read i (word_at g i)) (range_with_len 0 k)
+  pub taken : rng ≡ after_words k g
+
+pub filled_none : (read : ℕ → ℕ → Bool) (n : ℕ) (g : Lcg) (truths : List Bool) → length truths ≡ n → IsFilled read n g 0 g truths
+filled_none read n g truths size = record { size = size; drawn = refl; taken = sym (after_words-none g) }
+
+pub filled_on : (read : ℕ → ℕ → Bool) (n : ℕ) (g rng then : Lcg) (k word : ℕ) (truths : List Bool) (truth : Bool) → k < n → IsFilled read n g k rng truths → (word, then) ≡ pcg64 rng → truth ≡ read k word
+    → IsFilled read n g (k + 1) then (set truths k truth)
+filled_on read n g rng then k word truths truth low filled step is =
+    record {
+      size = length-set truths k truth ∙ filled.size;
+      drawn =
+          filled_more (λ i. read i (word_at g i)) truths k truth (omega (arith, low, filled.size))
+          (is ∙ ap (read k) (word_taken g rng then k word step filled.taken)) filled.drawn;
+      taken = word_left g rng then k word step filled.taken;
+    }

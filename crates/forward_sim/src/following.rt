@@ -4,14 +4,13 @@ ghost use Rattle.std.specs.Prelude.{◌≡◌, ◌+◌, ◌<◌, ◌≤◌, [], 
 ghost use Rattle.pauli_word.specs.States.{outcome};
 ghost use Rattle.pauli_word.specs.Words.{lone_letter};
 ghost use Rattle.programs.specs.Listed.{listed};
-ghost use Rattle.programs.specs.Named.{IsStepOf};
-ghost use Rattle.step_model.specs.Listing.{word_of_terms, step_records};
+ghost use Rattle.step_model.specs.Listing.{word_of_terms};
 ghost use Rattle.step_model.specs.Runs.{after_collapse, next, next_coin};
 ghost use Rattle.step_model.specs.WellFormed.{TermsFit};
 ghost use Rattle.tableau.specs.Rows.{destabilizer_at};
 ghost use Rattle.forward_sim.specs.References.{entry_of, IsEntry, IsStepEntry};
 ghost use Rattle.forward_sim.specs.private.Kept.{entry_for};
-ghost use Rattle.forward_sim.specs.private.Machines.{ComesTo, qubit_count, run_of};
+ghost use Rattle.forward_sim.specs.private.Machines.{CanTake, ComesTo, qubit_count, run_of};
 
 use crate::last_word::LastWord;
 use crate::letters::collapse_letter;
@@ -32,11 +31,8 @@ pub(crate) fn follow_step<A: Allocator + Copy>(
     word: &mut LastWord<A>,
     step: Step,
 )
-    requires of_program { IsStepOf program.now step }
-    requires qubits { qubit_count machine.old ≡ program.now.listing.qubits }
-    requires room { length machine.old.records + length
-        (step_records (listed program.now.listing.qubits program.now.products step))
-        ≤ machine.old.room }
+    requires step { CanTake program.now step (qubit_count machine.old) (length machine.old.records)
+        machine.old.room }
     requires letters { program.now.listing.qubits ≤ word.old.room }
     ensures letters { word.new.room ≡ word.old.room }
     ensures run { ComesTo machine.old machine.new

@@ -1,13 +1,12 @@
 //! A reference run is made: its records, and the words that its collapses replaced, where there is room for them.
 ghost use Rattle.std.specs.Prelude.{◌≡◌, ◌+◌, ◌≤◌, [], true, length, IfOk, OnOk};
 ghost use Rattle.programs.specs.Listed.{listed};
-ghost use Rattle.programs.specs.Named.{IsStepOf};
 ghost use Rattle.step_model.specs.Frames.{zero_coins};
-ghost use Rattle.step_model.specs.Listing.{step_records};
 ghost use Rattle.step_model.specs.Runs.{next, records_of, start};
 ghost use Rattle.forward_sim.specs.References.{walking_qubits, walking_run, AreEntries, AreWordsOf};
 ghost use Rattle.forward_sim.specs.private.Kept.{StepIsKept, WalksTo};
 ghost use Rattle.forward_sim.specs.private.Said.{words_of};
+ghost use Rattle.forward_sim.specs.private.Machines.{CanTake};
 ghost use Rattle.forward_sim.specs.private.SameRuns.{IsSameRun};
 
 use crate::kept_words::KeptWords;
@@ -108,11 +107,8 @@ fn keep_step<A: Allocator + Copy>(
     kept: &mut KeptWords<A>,
     step: Step,
 ) -> Result<(), AllocError>
-    requires of_program { IsStepOf program.now step }
-    requires qubits { walking_qubits walk.old ≡ program.now.listing.qubits }
-    requires room { length walk.old.records + length
-        (step_records (listed program.now.listing.qubits program.now.products step))
-        ≤ walk.old.room }
+    requires { CanTake program.now step (walking_qubits walk.old) (length walk.old.records)
+        walk.old.room }
     ensures walked { OnOk result
         (WalksTo walk.old walk.new
         (next program.now.listing []

@@ -2,7 +2,7 @@
 ghost use Rattle.std.specs.Prelude.{◌≡◌, ◌≢◌, ℕ, ◌+◌, ◌-◌, ◌^◌, ◌<◌, ◌≤◌, nat_le, nat_lt, length};
 ghost use Rattle.forward_sim.specs.private.BoundRuns.{bounds_in};
 ghost use Rattle.forward_sim.specs.Drawn.{after_words, word_at};
-ghost use Rattle.forward_sim.specs.private.LaneDraws.{coin_hits, fault_hits, toss_hits};
+ghost use Rattle.forward_sim.specs.private.LaneDraws.{HasRoom, coin_hits, fault_hits, toss_hits};
 ghost use Rattle.forward_sim.specs.private.PairDraws.{DrawsIntoBoth};
 
 use crate::copies::copy_of;
@@ -32,9 +32,7 @@ pub(crate) fn draw_pair(
     first: &mut Pcg64,
     second: &mut Pcg64,
 )
-    requires faults { length faults.old ≡ length (bounds_in runs.now) }
-    requires order { passed.start ≤ passed.end }
-    requires within { passed.end ≤ length coins.old }
+    requires { HasRoom passed (bounds_in runs.now) faults.old coins.old }
     ensures faults { DrawsIntoBoth lanes.first lanes.second 0 (length (bounds_in runs.now))
         (fault_hits (bounds_in runs.now) first.old) (fault_hits (bounds_in runs.now) second.old)
         faults.old faults.new }

@@ -22,15 +22,15 @@ pub struct Shots<A: Allocator + Copy> {
 }
 
 impl<A: Allocator + Copy> Model for Shots<A> {
-    ghost use Rattle.std.specs.Prelude.{◌≡◌, ◌≤◌, length};
     ghost use Rattle.forward_sim.specs.private.BoundRuns.{bounds_in};
+    ghost use Rattle.forward_sim.specs.private.LaneDraws.{HasRoom};
     ghost use Rattle.forward_sim.specs.Shots.{ShotWords};
 
     ghost Value = { ShotWords };
 
     ghost view = { λ s. record { bounds = bounds_in s.runs.items; passed = s.passed; faults = s.faults.items; coins = s.coins.items } };
 
-    ghost invariant = { λ s. (length s.faults.items ≡ length (bounds_in s.runs.items)) × (s.passed.start ≤ s.passed.end) × (s.passed.end ≤ length s.coins.items) };
+    ghost invariant = { λ s. HasRoom s.passed (bounds_in s.runs.items) s.faults.items s.coins.items };
 }
 
 // Written out, so that it is a call in the proof of each function that owns one.

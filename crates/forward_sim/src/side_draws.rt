@@ -3,6 +3,7 @@ ghost use Rattle.std.specs.Prelude.{◌≡◌, ◌+◌, ◌*◌, ◌≤◌, leng
 ghost use Rattle.forward_sim.specs.private.BoundRuns.{bounds_in};
 ghost use Rattle.forward_sim.specs.Drawn.{after_shots};
 ghost use Rattle.forward_sim.specs.Shots.{AreDrawn};
+ghost use Rattle.forward_sim.specs.private.LaneDraws.{HasRoom};
 
 use crate::copies::copy_of;
 use crate::lane_draws::{draw_coins, draw_faults};
@@ -20,9 +21,7 @@ pub(crate) fn draw_lanes(
     count: u32,
     rng: &mut Pcg64,
 )
-    requires faults { length faults.old ≡ length (bounds_in runs.now) }
-    requires order { passed.start ≤ passed.end }
-    requires within { passed.end ≤ length coins.old }
+    requires room { HasRoom passed (bounds_in runs.now) faults.old coins.old }
     requires count { count ≤ 64 }
     ensures drawn { AreDrawn passed (bounds_in runs.now) (length coins.old) count rng.old faults.new
         coins.new }
@@ -46,9 +45,7 @@ fn draw_halves(
     half: u32,
     rng: &mut Pcg64,
 )
-    requires faults { length faults.old ≡ length (bounds_in runs.now) }
-    requires order { passed.start ≤ passed.end }
-    requires within { passed.end ≤ length coins.old }
+    requires room { HasRoom passed (bounds_in runs.now) faults.old coins.old }
     requires half { half ≤ 32 }
     ensures drawn { AreDrawn passed (bounds_in runs.now) (length coins.old) (2 * half) rng.old
         faults.new coins.new }

@@ -2,10 +2,10 @@ ghost use Rattle.std.specs.Prelude.{◌≡◌, ◌+◌, ◌<◌, ◌≤◌, true
 ghost use Rattle.pauli_word.specs.States.{applied};
 ghost use Rattle.pauli_word.specs.Words.{lone_letter};
 ghost use Rattle.programs.specs.Listed.{listed, number_of};
-ghost use Rattle.programs.specs.Named.{IsNamed, IsStepOf};
-ghost use Rattle.step_model.specs.Listing.{Fault, step_records};
+ghost use Rattle.programs.specs.Named.{IsNamed};
+ghost use Rattle.step_model.specs.Listing.{Fault};
 ghost use Rattle.step_model.specs.Runs.{after_collapse, flip_happens, next};
-ghost use Rattle.forward_sim.specs.private.Machines.{ComesTo, correction_of, ended, in_state, qubit_count, run_of};
+ghost use Rattle.forward_sim.specs.private.Machines.{CanTake, ComesTo, correction_of, ended, in_state, qubit_count, run_of};
 
 use crate::letters::collapse_letter;
 use crate::machine::Machine;
@@ -23,11 +23,8 @@ pub(crate) fn take_step<A: Allocator + Copy>(
     faults: &[bool],
     step: Step,
 )
-    requires of_program { IsStepOf program.now step }
-    requires qubits { qubit_count machine.old ≡ program.now.listing.qubits }
-    requires room { length machine.old.records + length
-        (step_records (listed program.now.listing.qubits program.now.products step))
-        ≤ machine.old.room }
+    requires { CanTake program.now step (qubit_count machine.old) (length machine.old.records)
+        machine.old.room }
     ensures { ComesTo machine.old machine.new
         (next program.now.listing faults.now
         (listed program.now.listing.qubits program.now.products step) (run_of machine.old)) }

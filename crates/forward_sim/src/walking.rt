@@ -1,10 +1,9 @@
 ghost use Rattle.std.specs.Prelude.{◌≡◌, ◌+◌, ◌≤◌, [], length, IfOk};
 ghost use Rattle.programs.specs.Listed.{listed};
-ghost use Rattle.programs.specs.Named.{IsStepOf};
-ghost use Rattle.step_model.specs.Listing.{step_records};
 ghost use Rattle.step_model.specs.Runs.{next, start};
 ghost use Rattle.forward_sim.specs.References.{entry_of, walking_qubits, walking_run, IsStepEntry};
 ghost use Rattle.forward_sim.specs.private.Kept.{terms_listed, WalksTo};
+ghost use Rattle.forward_sim.specs.private.Machines.{CanTake};
 ghost use Rattle.forward_sim.specs.private.SameRuns.{IsSameRun};
 
 use crate::following::follow_step;
@@ -71,11 +70,8 @@ impl<A: Allocator + Copy> WalkingRun<A> {
 
     /// Goes over a step.
     pub(crate) fn go_over(&mut self, program: &Program<'_, A>, step: Step)
-        requires of_program { IsStepOf program.now step }
-        requires qubits { walking_qubits self.old ≡ program.now.listing.qubits }
-        requires room { length self.old.records + length
-            (step_records (listed program.now.listing.qubits program.now.products step))
-            ≤ self.old.room }
+        requires { CanTake program.now step (walking_qubits self.old) (length self.old.records)
+            self.old.room }
         ensures walked { WalksTo self.old self.new
             (next program.now.listing []
             (listed program.now.listing.qubits program.now.products step)
@@ -89,11 +85,8 @@ impl<A: Allocator + Copy> WalkingRun<A> {
 
     /// Goes over a step, and says nothing of it.
     pub(crate) fn go_past(&mut self, program: &Program<'_, A>, step: Step)
-        requires of_program { IsStepOf program.now step }
-        requires qubits { walking_qubits self.old ≡ program.now.listing.qubits }
-        requires room { length self.old.records + length
-            (step_records (listed program.now.listing.qubits program.now.products step))
-            ≤ self.old.room }
+        requires { CanTake program.now step (walking_qubits self.old) (length self.old.records)
+            self.old.room }
         ensures walked { WalksTo self.old self.new
             (next program.now.listing []
             (listed program.now.listing.qubits program.now.products step)

@@ -47,11 +47,9 @@ module _ (n : ℕ) (v : Frame) (letter : Letter) (q : ℕ) (rec : Option ℕ) (i
   records_after reset =
       record_flip-recorded rec inverted flip (measured_word n (measured n reset letter q)) v.word ∙ ap (recorded_flips rec) (meets reset)
 
-  pub carried-reset : carried n (Collapse (measured n true letter q) (recorded rec inverted flip)) v ≡ frame (set v.word q I) (v.records ++ recorded_flips rec (letters_clash (letter_at v.word q) letter))
-  carried-reset = ap (λ more. frame (set v.word q I) (v.records ++ more)) (records_after true)
-
-  pub carried-measured : carried n (Collapse (measured n false letter q) (recorded rec inverted flip)) v ≡ frame v.word (v.records ++ recorded_flips rec (letters_clash (letter_at v.word q) letter))
-  carried-measured = ap (λ more. frame v.word (v.records ++ more)) (records_after false)
+  pub carried-letter : (reset : Bool) → carried n (Collapse (measured n reset letter q) (recorded rec inverted flip)) v ≡ frame (if reset then set v.word q I else v.word) (v.records ++ recorded_flips rec (letters_clash (letter_at v.word q) letter))
+  carried-letter true = ap (λ more. frame (set v.word q I) (v.records ++ more)) (records_after true)
+  carried-letter false = ap (λ more. frame v.word (v.records ++ more)) (records_after false)
 
 -- the flips before a step, of the step, and behind it
 pub flips-on : (n : ℕ) (v : Frame) (s : ListedStep) (steps left : List ListedStep) (flips all : List Bool) → left ≡ s ∷ steps → flips ++ flips_from n v left ≡ all

@@ -1,5 +1,6 @@
-ghost use Rattle.std.specs.Prelude.{◌≡◌, ◌<◌, [], ◌++◌, length, IfOk, OnOk, slice_index_or, false};
+ghost use Rattle.std.specs.Prelude.{◌≡◌, ◌<◌, [], ◌++◌, if◌then◌else◌, length, IfOk, OnOk, slice_index_or, slice_set, false};
 ghost use Rattle.std.specs.Option.{option_to_list};
+ghost use Rattle.pauli_word.specs.declared.letter.Letter.TheVariants.{I};
 ghost use Rattle.pauli_word.specs.Words.{anticommute, signed};
 ghost use Rattle.gate_table.specs.Images.{arity_of};
 ghost use Rattle.gate_table.specs.WordImages.{image_at, image_at_two};
@@ -69,9 +70,7 @@ impl<A: Allocator + Copy> Frame<A> {
             } => {
                 let flip = self.word.letter(qubit as usize).clashes(letter);
                 self.record(rec, flip)?;
-                if reset {
-                    self.word.set_letter(qubit as usize, Letter::I);
-                }
+                self.clear(qubit as usize, reset);
                 return Ok(Some(flip));
             }
             Step::CollapseWord { product, rec, .. } => {
@@ -130,6 +129,17 @@ impl<A: Allocator + Copy> Frame<A> {
             self.records.push(flip)?;
         }
         Ok(())
+    }
+
+    // Makes the letter at a qubit I, where the qubit is reset.
+    fn clear(&mut self, q: usize, reset: bool)
+        requires { q < length self.old.word }
+        ensures { self.new
+            ≡ record self.old { word = if reset then slice_set self.old.word q I else self.old.word } }
+    {
+        if reset {
+            self.word.set_letter(q, Letter::I);
+        }
     }
 
     // Feedback applies a letter where an earlier record is 1: the frame takes it in where it flips that record.

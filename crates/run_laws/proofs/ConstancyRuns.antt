@@ -4,7 +4,6 @@
 use Rattle.std.proofs.Common.{◌≡◌, ℕ, suc, Bool, true, false, List, [], ◌∷◌, ◌++◌, append-nil, length, Option, Some, None, option_map, refl, ap, sym, ◌∙◌, arith, subst}
 use Rattle.std.specs.List.{range_with_len, AllPass, list_all}
 use Rattle.std.proofs.lemmas.Bool.{and_from}
-use Rattle.std.proofs.lemmas.List.{length-replicate}
 use Rattle.pauli_word.specs.declared.letter.Letter.{Letter}
 use Rattle.pauli_word.specs.declared.letter.Letter.TheVariants.{I, X, Y, Z}
 use Rattle.pauli_word.specs.Parity.{exclusive_or}
@@ -19,16 +18,11 @@ use Rattle.step_model.specs.Runs.{RunState, next, run_from, start}
 use Rattle.step_model.specs.Sensitivities.{Sensitivity, sensitivity, sensitivity_before, collapse_word, latest_place, later_or_here, lowest_X_or_Y, place_of, after_or_start}
 use Rattle.step_model.specs.Targets.{parity, target_at}
 use Rattle.step_model.specs.WellFormed.{IsWellFormed, step_fits, records_made}
+use Rattle.step_model.proofs.SensitivityLengths.{length-sensitivity}
 use Rattle.step_model.proofs.StateIsGroup.{IsGroup-next, IsGroup-run_from, list_all-pass}
 use Rattle.pauli_word.proofs.Groups.{IsGroup-start}
 use Rattle.run_laws.proofs.ConstancyRecords.{parity-none, parity-next, in_order-next, record_change}
-use Rattle.run_laws.proofs.ConstancySteps.{length-sensitivity_before, sign_after, member-next}
-
-pub length-sensitivity : (program : Listing) (named : List ℕ) (steps : List ListedStep) → AllPass (step_fits program) steps → length (sensitivity program.qubits named steps).word ≡ program.qubits
-length-sensitivity program named [] fits = length-replicate program.qubits I
-length-sensitivity program named (step ∷ steps) fits =
-    length-sensitivity_before program step (sensitivity program.qubits named steps) (fits 0 step (omega arith))
-    (length-sensitivity program named steps (λ j d h. fits (suc j) d (omega arith)))
+use Rattle.run_laws.proofs.ConstancySteps.{sign_after, member-next}
 
 -- no place among steps: none at the first, and none later
 none_later : (step : ListedStep) (later : Option ℕ) (here : Bool) → later_or_here step later here ≡ None → later ≡ None

@@ -1,54 +1,26 @@
 -- One step of a run: where the sensitivity before a step is in the state, that after it is in the next state. Its
 -- sign changes by what the step brings, and by what its record changes in the parity.
-use Rattle.std.proofs.Common.{◌≡◌, ℕ, ◌<◌, Bool, true, false, not, ◌&&◌, List, length, set, get_or, nat_lt, Option, refl, ap, sym, ◌∙◌, length-set}
+use Rattle.std.proofs.Common.{◌≡◌, ℕ, ◌<◌, Bool, true, false, not, ◌&&◌, List, length, get_or, nat_lt, Option, refl, ap, ◌∙◌}
 use Rattle.std.proofs.lemmas.Bool.{and_parts, not-true, ltb-true}
 use Rattle.pauli_word.specs.declared.letter.Letter.{Letter}
-use Rattle.pauli_word.specs.declared.letter.Letter.TheVariants.{I}
 use Rattle.pauli_word.specs.Letters.{is_minus}
 use Rattle.pauli_word.specs.Parity.{exclusive_or}
-use Rattle.pauli_word.specs.Words.{letters_power, anticommute, lone_letter, letter_at, signed}
+use Rattle.pauli_word.specs.Words.{letters_power, anticommute, lone_letter, signed}
 use Rattle.pauli_word.proofs.Parities.{same_truth, same_truth-true, at_four_truths, at_two_truths}
-use Rattle.pauli_word.proofs.WordLaws.{length-letters_product}
-use Rattle.gate_table.specs.Images.{image1, image2, inverse_of}
 use Rattle.gate_table.specs.WordImages.{preimage_at, preimage_at_two}
 use Rattle.step_model.specs.Listing.{ListedStep, One, Two, Collapse, Fault, Feedback, Measured, Word, Reset, Recorded, measured_word, Listing, fault_word, is_I}
 use Rattle.pauli_word.specs.States.{State, collapsed, outcome}
 use Rattle.pauli_word.specs.Groups.{IsGroup}
 use Rattle.step_model.specs.Runs.{RunState, next, next_coin, happens, record_changes}
-use Rattle.step_model.specs.Sensitivities.{Sensitivity, cleared, record_counts, multiplied, sensitivity_before, collapse_word}
+use Rattle.step_model.specs.Sensitivities.{Sensitivity, cleared, record_counts, sensitivity_before, collapse_word}
 use Rattle.step_model.specs.WellFormed.{record_fits, step_fits}
 use Rattle.pauli_word.proofs.Groups.{IsGroup-collapsed}
+use Rattle.step_model.proofs.SensitivityLengths.{length-cleared}
 use Rattle.step_model.proofs.StateIsGroup.{length-measured}
 use Rattle.run_laws.specs.Constants.{sign_brought}
 use Rattle.run_laws.proofs.ConstancyCollapses.{seen_after, through_collapse, through_reset}
 use Rattle.run_laws.proofs.ConstancyRecords.{record_change}
 use Rattle.pauli_word.proofs.LoneLetters.{length-lone_letter, anticommute-cleared}
-
-pub length-cleared : (c : Measured) (w : List Letter) → length (cleared c w) ≡ length w
-length-cleared (Word v) w = refl
-length-cleared (Reset letter q) w = length-set w q I
-
--- the sensitivity keeps its length, at a step that fits
-pub length-sensitivity_before : (program : Listing) (step : ListedStep) (s : Sensitivity) → step_fits program step ≡ true → length s.word ≡ program.qubits → length (sensitivity_before program.qubits step s).word ≡ program.qubits
-length-sensitivity_before program (One gate q) s fits h = length-set s.word q (image1 (inverse_of gate) (letter_at s.word q)).0 ∙ h
-length-sensitivity_before program (Two gate a b) s fits h =
-    let w = s.word in
-    length-set (set w a (image2 (inverse_of gate) (letter_at w a) (letter_at w b)).0) b (image2 (inverse_of gate) (letter_at w a) (letter_at w b)).1
-    ∙ length-set w a (image2 (inverse_of gate) (letter_at w a) (letter_at w b)).0
-    ∙ h
-length-sensitivity_before program (Collapse c r) s fits h = by_count (record_counts s.records r)
-  where
-    same : length (cleared c s.word) ≡ program.qubits
-    same = length-cleared c s.word ∙ h
-
-    long : length (measured_word program.qubits c) ≡ program.qubits
-    long = length-measured program c r fits
-
-    by_count : (counts : Bool) → length (multiplied counts (measured_word program.qubits c) (cleared c s.word)) ≡ program.qubits
-    by_count false = same
-    by_count true = length-letters_product (measured_word program.qubits c) (cleared c s.word) (long ∙ sym same) ∙ long
-length-sensitivity_before program (Fault f) s fits h = h
-length-sensitivity_before program (Feedback w r) s fits h = h
 
 -- a reset that fits is of no I, at a qubit of the program
 pub record ResetFits (n qubit : ℕ) (letter : Letter) : Type 0 where
@@ -111,7 +83,7 @@ member-next program faults (Collapse c r) m s b fits g h apart k =
     after_reset program faults c r m s.word sign fits g after_is_group h apart
     (ap (λ x. after (signed v (exclusive_or b x))) (collapse_sign counts (is_minus (letters_power w v)) (record_changes faults r) seen)
     ∙ through_collapse program.qubits m.state w v counts (next_coin m.coins) b g after_is_group
-    long (length-cleared c s.word ∙ h)
+    long (length-cleared program.qubits c s.word h)
     (commutes_cleared program c r s.word fits h apart) k)
   where
     w : List Letter

@@ -16,7 +16,8 @@ use Rattle.run_laws.specs.Pairs.{Disagrees, PairLaw, PlaceLaw, RandomLaw}
 use Rattle.step_model.specs.Targets.{target_at}
 use Rattle.step_model.specs.WellFormed.{IsWellFormed}
 use Rattle.pauli_word.proofs.Groups.{IsGroup-start}
-use Rattle.run_laws.proofs.ConstancyRuns.{length-sensitivity, parity_is_constant}
+use Rattle.step_model.proofs.SensitivityLengths.{length-sensitivity}
+use Rattle.run_laws.proofs.ConstancyRuns.{parity_is_constant}
 use Rattle.run_laws.proofs.PairPlaces.{option_either, length-flips_from, length-flips_after, lowest-clash}
 use Rattle.run_laws.proofs.PairRuns.{frame_disagrees, place_disagrees}
 use Rattle.run_laws.proofs.PairStates.{start-shifted, lone_letter-I_or_Z}

@@ -17,9 +17,9 @@ use Rattle.step_model.specs.WellFormed.{step_fits, records_made}
 use Rattle.run_laws.proofs.ShiftGates.{image_of_preimage, image_of_preimage_two, anticommute-images, anticommute-images_two}
 use Rattle.run_laws.proofs.ConstancyRecords.{parity-push}
 use Rattle.run_laws.proofs.ShiftRuns.{same-carried}
-use Rattle.run_laws.proofs.ShiftSteps.{length-cleared, length-carried_with, length-fed, anticommute-multiplied}
+use Rattle.run_laws.proofs.ShiftSteps.{length-carried_with, length-fed, anticommute-multiplied}
 use Rattle.run_laws.proofs.ShiftWords.{anticommute-none, anticommute-cleared}
-use Rattle.run_laws.proofs.ConstancyRuns.{length-sensitivity}
+use Rattle.step_model.proofs.SensitivityLengths.{length-cleared, length-sensitivity}
 use Rattle.step_model.proofs.StateIsGroup.{length-measured}
 use Rattle.pauli_word.proofs.WordLaws.{anticommute_comm}
 use Rattle.step_model.proofs.HitSteps.{first_of_range, rest_of_range}

@@ -6,7 +6,7 @@ use Rattle.pauli_word.specs.declared.letter.Letter.{Letter}
 use Rattle.pauli_word.specs.Parity.{exclusive_or}
 use Rattle.pauli_word.specs.Words.{Signed, anticommute, lone_letter, letters_product, signed, with_sign_changed}
 use Rattle.pauli_word.proofs.Parities.{exclusive_or_assoc, same_truth, same_truth-true, at_six_truths}
-use Rattle.pauli_word.proofs.WordLaws.{anticommute_comm, anticommute-product, length-letters_product}
+use Rattle.pauli_word.proofs.WordLaws.{anticommute_comm, anticommute-product}
 use Rattle.gate_table.specs.WordImages.{image_at, image_at_two, preimage_at, preimage_at_two}
 use Rattle.step_model.specs.Listing.{ListedStep, One, Two, Collapse, Fault, Feedback, Measured, Word, Reset, Recorded, measured_word, Listing, fault_word, effect_at}
 use Rattle.pauli_word.specs.States.{State, applied, collapsed, correcting, outcome}
@@ -17,19 +17,12 @@ use Rattle.step_model.specs.WellFormed.{step_fits, word_fits}
 use Rattle.step_model.specs.Frames.{Frame}
 use Rattle.run_laws.proofs.ConstancySteps.{reset_fits}
 use Rattle.run_laws.proofs.ShiftGates.{image_of_preimage, image_of_preimage_two, anticommute-images, anticommute-images_two}
+use Rattle.step_model.proofs.SensitivityLengths.{length-cleared, length-multiplied}
 use Rattle.step_model.proofs.StateIsGroup.{IsGroup-next, length-measured}
 use Rattle.run_laws.proofs.ShiftCollapse.{outcome-shifted, collapsed-shifted, reset-shifted}
 use Rattle.run_laws.proofs.ShiftLists.{joined-append, get_or-joined}
 use Rattle.pauli_word.proofs.LoneLetters.{length-lone_letter}
 use Rattle.run_laws.proofs.ShiftWords.{length-effect_word}
-
-pub length-multiplied : (n : ℕ) (b : Bool) (w v : List Letter) → length w ≡ n → length v ≡ n → length (multiplied b w v) ≡ n
-length-multiplied n true w v size size' = length-letters_product w v (size ∙ sym size') ∙ size
-length-multiplied n false w v size size' = size'
-
-pub length-cleared : (n : ℕ) (c : Measured) (v : List Letter) → length v ≡ n → length (cleared c v) ≡ n
-length-cleared n (Word w) v size = size
-length-cleared n (Reset letter q) v size = length-set v q _ ∙ size
 
 -- feedback that fits is by a word of the program's qubits
 pub length-fed : (program : Listing) (w : List Letter) (r : ℕ) → step_fits program (Feedback w r) ≡ true → length w ≡ program.qubits

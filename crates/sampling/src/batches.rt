@@ -1,12 +1,11 @@
 //! Shots drawn, run and written, 64 at a time.
-ghost use Rattle.std.specs.Prelude.{◌≡◌, ◌+◌, ◌<◌, ◌≤◌, length, IfErr, OnOk, OnErr};
+ghost use Rattle.std.specs.Prelude.{◌≡◌, ◌<◌, ◌≤◌, IfErr, OnOk, OnErr};
 ghost use Rattle.streams.specs.Pushed.{Pushes};
 ghost use Rattle.step_model.specs.Ends.{Takes, TakesBeginning, write_failures};
 ghost use Rattle.step_model.specs.Faults.{write_fault};
-ghost use Rattle.forward_sim.specs.Drawn.{bounds_of};
-ghost use Rattle.frames.specs.Batches.{DontCount};
 ghost use Rattle.sampling.specs.Sampled.{lines_from, shot_generator, shots_text};
 ghost use Rattle.sampling.specs.Shown.{shown_line};
+ghost use Rattle.sampling.specs.private.ShownRuns.{FitTogether};
 
 use crate::lines::push_lines;
 use crate::side_runs::SideRuns;
@@ -27,10 +26,7 @@ pub(crate) fn write_batches<W: Sink, A: Allocator + Copy>(
     seed: u64,
     sink: &mut W,
 ) -> Result<(), Fault>
-    requires bounds { drawn.old.bounds ≡ bounds_of runs.old.program }
-    requires coins { length drawn.old.coins ≡ runs.old.program.collapses }
-    requires passed { DontCount runs.old.program drawn.old.passed }
-    requires line { length line.old ≡ length runs.old.words + 1 }
+    requires { FitTogether drawn.old runs.old line.old }
     ensures all { OnOk result
         (Takes (W.taken sink.old) (W.taken sink.new)
         (shots_text (shown_line runs.old.shown) shots seed runs.old.program)) }
@@ -55,10 +51,7 @@ fn push_shots<W: Sink, A: Allocator + Copy>(
     shots: u64,
     rng: &mut Pcg64,
 )
-    requires bounds { drawn.old.bounds ≡ bounds_of runs.old.program }
-    requires coins { length drawn.old.coins ≡ runs.old.program.collapses }
-    requires passed { DontCount runs.old.program drawn.old.passed }
-    requires line { length line.old ≡ length runs.old.words + 1 }
+    requires { FitTogether drawn.old runs.old line.old }
     ensures { Pushes W.taken W.failures sink.old sink.new out.old out.new
         (lines_from (shown_line runs.old.shown) runs.old.program shots rng.old) }
 {
@@ -94,20 +87,14 @@ fn push_batch<W: Sink, A: Allocator + Copy>(
     count: u32,
     rng: &mut Pcg64,
 )
-    requires bounds { drawn.old.bounds ≡ bounds_of runs.old.program }
-    requires coins { length drawn.old.coins ≡ runs.old.program.collapses }
-    requires passed { DontCount runs.old.program drawn.old.passed }
-    requires line { length line.old ≡ length runs.old.words + 1 }
+    requires fit { FitTogether drawn.old runs.old line.old }
     requires count { count ≤ 64 }
     ensures lines { Pushes W.taken W.failures sink.old sink.new out.old out.new
         (lines_from (shown_line runs.old.shown) runs.old.program count rng.old) }
     ensures taken { rng.new ≡ shot_generator runs.old.program rng.old count }
     ensures program { runs.new.program ≡ runs.old.program }
     ensures shown { runs.new.shown ≡ runs.old.shown }
-    ensures bounds { drawn.new.bounds ≡ bounds_of runs.old.program }
-    ensures passed { drawn.new.passed ≡ drawn.old.passed }
-    ensures coins { length drawn.new.coins ≡ runs.old.program.collapses }
-    ensures line { length line.new ≡ length runs.new.words + 1 }
+    ensures fit { FitTogether drawn.new runs.new line.new }
 {
     drawn.draw(count, rng);
     runs.run(drawn.faults(), drawn.coins());

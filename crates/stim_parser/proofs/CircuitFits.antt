@@ -5,7 +5,7 @@ use Rattle.std.specs.List.{list_any}
 use Rattle.std.proofs.lemmas.Bool.{ltb-false}
 use Rattle.stim_lexer.specs.Cut.{Cut}
 use Rattle.stim_lexer.specs.Fitting.{IsTurns, LinesFit}
-use Rattle.stim_lexer.proofs.QuestionLemmas.{neither, not_not}
+use Rattle.stim_lexer.proofs.QuestionLemmas.{neither}
 use Rattle.stim_parser.specs.declared.forms.TargetForm.{TargetForm}
 use Rattle.stim_parser.specs.declared.forms.TargetForm.TheVariants.{Turns}
 use Rattle.stim_parser.specs.declared.operation.Operation.{Operation}
@@ -18,7 +18,7 @@ use Rattle.stim_parser.specs.Limits.{has_target_beyond, is_target_beyond}
 use Rattle.stim_parser.specs.Numbers.{greatest_number}
 use Rattle.stim_parser.specs.Texts.{circuits}
 use Rattle.stim_parser.specs.Verdicts.{circuit_table, line_targets, takes_none, turns_of}
-use Rattle.stim_parser.proofs.FitLemmas.{OpensFitting, TakesFitting, readings_fit}
+use Rattle.stim_parser.proofs.FitLemmas.{OpensFitting, TakesFitting, readings_fit, taken}
 use Rattle.stim_parser.proofs.WrittenLemmas.{keyword_is_written, keyword_written, passes, targets_written}
 
 named_written : (operation : Operation) (cut : Cut) → keyword_named cut.name ≡ Some (Does operation) → operation_is_written operation ≡ true
@@ -44,11 +44,7 @@ opens_fitting targets h some = few_turns targets h some
 takes_fitting : TakesFitting circuit_table Fits
 takes_fitting depth number operation cut e h =
     record {
-      arguments = (neither _ _ h.0).1;
-      probability = h.1.0;
-      arguments_within = (neither _ _ h.1.1.1.0).0;
-      targets = not_not _ (neither _ _ h.1.1.0).1;
-      targets_within = (neither _ _ h.1.1.1.0).1;
+      taken = taken circuit_table depth number operation cut h;
       no_targets = none_read (target_form (Does operation)) cut.targets;
       count = (neither _ _ h.1.1.1.1.0).1;
       different = h.1.1.1.1.1.0;

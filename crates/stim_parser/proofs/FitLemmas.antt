@@ -9,10 +9,12 @@ use Rattle.stim_lexer.specs.Cut.{Cut}
 use Rattle.stim_lexer.specs.Fitting.{IsTurns, ReadingAccords, ReadingFits}
 use Rattle.stim_lexer.specs.Instructions.{Instruction}
 use Rattle.stim_lexer.specs.Texts.{Closes, Refuses}
-use Rattle.stim_lexer.proofs.QuestionLemmas.{NoneApplies, neither, none_applies, none_behind, not_deep, not_zero}
+use Rattle.stim_lexer.proofs.QuestionLemmas.{NoneApplies, neither, none_applies, none_behind, not_deep, not_not, not_zero}
 use Rattle.stim_parser.specs.declared.table.Causes.{Causes}
 use Rattle.stim_parser.specs.declared.table.Keyword.{Keyword}
 use Rattle.stim_parser.specs.declared.table.Keyword.TheVariants.{Does, Repeats}
+use Rattle.stim_parser.specs.Arguments.{arguments_in}
+use Rattle.stim_parser.specs.Taken.{IsAsTaken}
 use Rattle.stim_parser.specs.Judging.{Table, accepted, judged, misplaces_brace, read_targets, reading_of, refusal_of, refusals_of_name, said_by, unless_refused}
 use Rattle.stim_parser.specs.private.Questions.{refusals_of_keyword}
 
@@ -21,6 +23,18 @@ abbrev pub TakesFitting : {O T F : Type 0} → Table O T F → (Instruction O T 
 TakesFitting {O} table Fits =
     (depth number : ℕ) (operation : O) (cut : Cut) → table.keyword_named cut.name ≡ Some (Does operation)
     → NoneApplies (refusals_of_keyword table depth (Does operation) cut) → ReadingFits Fits depth (accepted table number (Some (Does operation)) cut)
+
+-- what holds then in every format
+pub taken : {O T F : Type 0} (table : Table O T F) (depth number : ℕ) (operation : O) (cut : Cut) → NoneApplies (refusals_of_keyword table depth (Does operation) cut)
+    → IsAsTaken table (record { line = number; operation = operation; arguments = arguments_in cut.arguments; targets = read_targets table (table.target_form (Does operation)) cut.targets })
+taken table depth number operation cut h =
+    record {
+      arguments = (neither _ _ h.0).1;
+      probability = h.1.0;
+      arguments_within = (neither _ _ h.1.1.1.0).0;
+      targets = not_not _ (neither _ _ h.1.1.0).1;
+      targets_within = (neither _ _ h.1.1.1.0).1;
+    }
 
 -- turns fit that are some, by targets of which none is beyond its limit
 abbrev pub OpensFitting : {O T F : Type 0} → Table O T F → (ℕ → Type 0) → Type 0

@@ -10,11 +10,11 @@ use Rattle.stim_parser.specs.declared.operation.Operation.{Operation}
 use Rattle.stim_parser.specs.declared.operation.Operation.TheVariants.{Measurement, QubitReset, MeasurementReset, PauliError}
 use Rattle.stim_parser.specs.declared.target.Target.{Target}
 use Rattle.stim_parser.specs.declared.target.Target.TheVariants.{Back, Pauli}
-use Rattle.stim_parser.specs.Instructions.{argument_form, target_form}
-use Rattle.stim_parser.specs.Limits.{has_wrong_arguments, has_wrong_probability, has_argument_beyond, are_of_form, has_target_beyond, has_wrong_count, has_same_qubit}
-use Rattle.stim_parser.specs.Numbers.{greatest_coordinate}
+use Rattle.stim_parser.specs.Instructions.{target_form}
+use Rattle.stim_parser.specs.Limits.{has_wrong_count, has_same_qubit}
+use Rattle.stim_parser.specs.Taken.{IsAsTaken}
 use Rattle.stim_parser.specs.Trees.{Tree}
-use Rattle.stim_parser.specs.Verdicts.{Instruction, takes_none}
+use Rattle.stim_parser.specs.Verdicts.{Instruction, circuit_table, takes_none}
 
 -- an operation and a target as a text can write them: no letter is I, and a record is at least one back
 abbrev pub operation_is_written : Operation → Bool
@@ -31,11 +31,8 @@ target_is_written target = true
 
 -- an instruction with arguments and targets as it takes them
 pub record Fits (i : Instruction) : Type 0 where
-  pub arguments : has_wrong_arguments (argument_form (Does i.operation)) i.arguments ≡ false
-  pub probability : has_wrong_probability (argument_form (Does i.operation)) i.arguments ≡ false
-  pub arguments_within : has_argument_beyond greatest_coordinate (argument_form (Does i.operation)) i.arguments ≡ false
-  pub targets : are_of_form (target_form (Does i.operation)) i.targets ≡ true
-  pub targets_within : has_target_beyond (target_form (Does i.operation)) i.targets ≡ false
+  pub taken : IsAsTaken circuit_table i
+  pub open taken use *
   pub no_targets : takes_none (target_form (Does i.operation)) ≡ true → i.targets ≡ []
   pub count : has_wrong_count (target_form (Does i.operation)) i.targets ≡ false
   pub different : has_same_qubit (target_form (Does i.operation)) i.targets ≡ false

@@ -11,6 +11,7 @@ pub mod Probabilities
 pub mod Verdicts
 pub mod Texts
 pub mod Trees
+pub mod Taken
 pub mod Circuits
 pub mod Written
 pub mod Coordinates

@@ -1,22 +1,25 @@
 -- The steps that one instruction makes are as many, and make as many records, collapses and faults, as its targets say.
-use Rattle.std.proofs.Common.{◌≡◌, ℕ, ◌+◌, ◌*◌, ◌/◌, ◌≤◌, Bool, true, false, List, [], ◌∷◌, length, Option, None, Some, refl, ap, ◌∙◌, arith}
+use Rattle.std.proofs.Common.{◌≡◌, ℕ, ◌+◌, ◌*◌, ◌/◌, ◌≤◌, Bool, true, false, List, [], ◌∷◌, Option, None, Some, refl, ap, ◌∙◌, arith}
 use Rattle.std.specs.Prelude.{if◌then◌else◌, ◌==◌, is_some, slice_get}
 use Rattle.std.specs.List.{sum_by}
+use Rattle.std.proofs.lemmas.List.Sums.{sum_by-cons}
 use Rattle.gate_table.specs.declared.gate.Gate.{Gate}
 use Rattle.gate_table.specs.Images.{arity_of}
 use Rattle.programs.specs.declared.step.Counts.{Counts}
-use Rattle.programs.specs.Numbering.{made_by, made_by_flip, no_counts}
+use Rattle.programs.specs.declared.step.TextStep.{TextStep}
+use Rattle.programs.specs.declared.step.TextStep.TheVariants as step
+use Rattle.programs.specs.Numbering.{made_by, made_in_collapse, no_counts}
 use Rattle.stim_parser.specs.declared.operation.Operation.{Operation}
 use Rattle.stim_parser.specs.declared.operation.Operation.TheVariants.{Applies, Measurement, QubitReset, MeasurementReset, ProductMeasurement, PauliError, CorrelatedError}
 use Rattle.stim_parser.specs.declared.target.Target.{Target}
 use Rattle.stim_parser.specs.Verdicts.{Instruction}
-use Rattle.unroll.specs.private.Made.{measure_step, operation_steps, pair_step, paired, record_back, reset_step}
+use Rattle.unroll.specs.private.Made.{measure_step, operation_steps, pair_step, paired, record_back, recording, reset_step}
 use Rattle.unroll.specs.StepsMade.{flip_of}
 use Rattle.stim_parser.specs.Limits.{products_of}
 use Rattle.unroll.specs.private.Steps.{instruction_steps}
 use Rattle.unroll.specs.Totals.{target_count}
 use Rattle.unroll.specs.private.MadeTotals.{fault_count, faults_counted, has_argument, made_count, steps_made, collapse_count, collapses_made, record_count, records_made, step_count}
-use Rattle.unroll.proofs.StepSums.{collapses_by, faults_by, one_by, records_by, sum-each, sum-faults, sum-gates, sum-products}
+use Rattle.unroll.proofs.StepSums.{collapses_by, counts_of, faults_by, one_by, records_by, sum-each, sum-faults, sum-gates, sum-products}
 
 -- ---- gates make nothing
 
@@ -28,83 +31,63 @@ paired-none g a b None None = refl
 pub pair-none : (g : Gate) (a b : Target) → made_by (pair_step g a b) ≡ no_counts
 pair-none g a b = paired-none g a b (record_back a) (record_back b)
 
--- ---- records
+-- ---- each step of an operation makes the same
 
-operation-records : (o : Operation) (e p : ℕ) (flip : Option ℕ) (ts : List Target) → sum_by records_by (operation_steps o e p flip ts) ≡ records_made o (target_count o ts)
-operation-records (Applies g) e p flip ts =
-    omega (arith, sum-gates records_by g 0 ts (λ t. refl) (λ a b. ap (λ (c : Counts). c.records) (pair-none g a b)))
-operation-records (Measurement l) e p flip ts = omega (arith, sum-each records_by (measure_step l false flip) 1 ts (λ t. refl))
-operation-records (QubitReset l) e p flip ts = omega (arith, sum-each records_by (reset_step l) 0 ts (λ t. refl))
-operation-records (MeasurementReset l) e p flip ts = omega (arith, sum-each records_by (measure_step l true flip) 1 ts (λ t. refl))
-operation-records ProductMeasurement e p flip ts = omega (arith, sum-products records_by flip 1 p (products_of ts) (λ q inverted. refl))
-operation-records (PauliError l) e p flip ts = omega (arith, sum-faults records_by 0 e ts (λ k. refl))
-operation-records o e p flip ts = refl
+abbrev made_each : Operation → Option ℕ → Counts
+made_each (Measurement l) flip = made_in_collapse (Some (recording false flip))
+made_each (QubitReset l) flip = made_in_collapse None
+made_each (MeasurementReset l) flip = made_in_collapse (Some (recording false flip))
+made_each ProductMeasurement flip = made_in_collapse (Some (recording false flip))
+made_each (PauliError l) flip = counts_of 0 0 1
+made_each CorrelatedError flip = counts_of 0 0 1
+made_each o flip = no_counts
+
+module _ (read : Counts → ℕ) where
+  abbrev by : TextStep → ℕ
+  by s = read (made_by s)
+
+  operation-sum : (o : Operation) (e p : ℕ) (flip : Option ℕ) (ts : List Target) → sum_by by (operation_steps o e p flip ts) ≡ steps_made o (target_count o ts) * read (made_each o flip)
+  operation-sum (Applies g) e p flip ts = sum-gates by g (read no_counts) ts (λ t. refl) (λ a b. ap read (pair-none g a b))
+  operation-sum (Measurement l) e p flip ts = sum-each by (measure_step l false flip) (read (made_each (Measurement l) flip)) ts (λ t. refl)
+  operation-sum (QubitReset l) e p flip ts = sum-each by (reset_step l) (read (made_in_collapse None)) ts (λ t. refl)
+  operation-sum (MeasurementReset l) e p flip ts = sum-each by (measure_step l true flip) (read (made_each (MeasurementReset l) flip)) ts (λ t. refl)
+  operation-sum ProductMeasurement e p flip ts = sum-products by flip (read (made_each ProductMeasurement flip)) p (products_of ts) (λ q inverted. refl)
+  operation-sum (PauliError l) e p flip ts = sum-faults by (read (counts_of 0 0 1)) e ts (λ k. refl)
+  operation-sum CorrelatedError e p flip ts = omega (arith, sum_by-cons by (step.Fault e) [])
+  operation-sum o e p flip ts = omega arith
+
+  instruction-sum : (e p : ℕ) (i : Instruction) → sum_by by (instruction_steps e p i) ≡ made_count i * read (made_each i.operation (flip_of e i.arguments))
+  instruction-sum e p i = operation-sum i.operation e p (flip_of e i.arguments) i.targets
+
+records-each : (o : Operation) (flip : Option ℕ) (n : ℕ) → steps_made o n * (made_each o flip).records ≡ records_made o n
+records-each (Applies g) flip n = omega arith
+records-each o flip n = omega arith
 
 pub instruction-records : (e p : ℕ) (i : Instruction) → sum_by records_by (instruction_steps e p i) ≡ record_count i
-instruction-records e p i = operation-records i.operation e p (flip_of e i.arguments) i.targets
+instruction-records e p i =
+    instruction-sum (λ c. c.records) e p i ∙ records-each i.operation (flip_of e i.arguments) (target_count i.operation i.targets)
 
--- ---- collapses
-
-operation-collapses : (o : Operation) (e p : ℕ) (flip : Option ℕ) (ts : List Target) → sum_by collapses_by (operation_steps o e p flip ts) ≡ collapses_made o (target_count o ts)
-operation-collapses (Applies g) e p flip ts =
-    omega (arith, sum-gates collapses_by g 0 ts (λ t. refl) (λ a b. ap (λ (c : Counts). c.collapses) (pair-none g a b)))
-operation-collapses (Measurement l) e p flip ts = omega (arith, sum-each collapses_by (measure_step l false flip) 1 ts (λ t. refl))
-operation-collapses (QubitReset l) e p flip ts = omega (arith, sum-each collapses_by (reset_step l) 1 ts (λ t. refl))
-operation-collapses (MeasurementReset l) e p flip ts = omega (arith, sum-each collapses_by (measure_step l true flip) 1 ts (λ t. refl))
-operation-collapses ProductMeasurement e p flip ts = omega (arith, sum-products collapses_by flip 1 p (products_of ts) (λ q inverted. refl))
-operation-collapses (PauliError l) e p flip ts = omega (arith, sum-faults collapses_by 0 e ts (λ k. refl))
-operation-collapses o e p flip ts = refl
+collapses-each : (o : Operation) (flip : Option ℕ) (n : ℕ) → steps_made o n * (made_each o flip).collapses ≡ collapses_made o n
+collapses-each (Applies g) flip n = omega arith
+collapses-each o flip n = omega arith
 
 pub instruction-collapses : (e p : ℕ) (i : Instruction) → sum_by collapses_by (instruction_steps e p i) ≡ collapse_count i
-instruction-collapses e p i = operation-collapses i.operation e p (flip_of e i.arguments) i.targets
-
--- ---- faults
+instruction-collapses e p i =
+    instruction-sum (λ c. c.collapses) e p i ∙ collapses-each i.operation (flip_of e i.arguments) (target_count i.operation i.targets)
 
 -- a flip is there exactly where an argument is
-flips : (e n : ℕ) (arguments : List (List ℕ)) → n * made_by_flip (flip_of e arguments) ≡ (if is_some (slice_get arguments 0) then n else 0)
-flips e n [] = omega arith
-flips e n (a ∷ arguments) = omega arith
-
-either-way : (b : Bool) (n : ℕ) → n ≡ (if b then n else n)
-either-way true n = refl
-either-way false n = refl
-
-operation-faults : (o : Operation) (e p : ℕ) (arguments : List (List ℕ)) (ts : List Target) → sum_by faults_by (operation_steps o e p (flip_of e arguments) ts) ≡ faults_counted o (is_some (slice_get arguments 0)) (target_count o ts)
-operation-faults (Applies g) e p arguments ts =
-    let none : sum_by faults_by (operation_steps (Applies g) e p (flip_of e arguments) ts) ≡ 0 = omega (arith, sum-gates faults_by g 0 ts (λ t. refl) (λ a b. ap (λ (c : Counts). c.faults) (pair-none g a b))) in
-    none ∙ either-way (is_some (slice_get arguments 0)) 0
-operation-faults (Measurement l) e p arguments ts =
-    sum-each faults_by (measure_step l false (flip_of e arguments)) (made_by_flip (flip_of e arguments)) ts (λ t. refl)
-    ∙ flips e (length ts) arguments
-operation-faults (QubitReset l) e p arguments ts =
-    let none : sum_by faults_by (operation_steps (QubitReset l) e p (flip_of e arguments) ts) ≡ 0 = omega (arith, sum-each faults_by (reset_step l) 0 ts (λ t. refl)) in
-    none ∙ either-way (is_some (slice_get arguments 0)) 0
-operation-faults (MeasurementReset l) e p arguments ts =
-    sum-each faults_by (measure_step l true (flip_of e arguments)) (made_by_flip (flip_of e arguments)) ts (λ t. refl)
-    ∙ flips e (length ts) arguments
-operation-faults ProductMeasurement e p arguments ts =
-    sum-products faults_by (flip_of e arguments) (made_by_flip (flip_of e arguments)) p (products_of ts) (λ q inverted. refl)
-    ∙ flips e (length (products_of ts)) arguments
-operation-faults (PauliError l) e p arguments ts = omega (arith, sum-faults faults_by 1 e ts (λ k. refl))
-operation-faults CorrelatedError e p arguments ts = refl
-operation-faults o e p arguments ts = either-way (is_some (slice_get arguments 0)) 0
+faults-each : (o : Operation) (e : ℕ) (arguments : List (List ℕ)) (n : ℕ) → steps_made o n * (made_each o (flip_of e arguments)).faults ≡ faults_counted o (is_some (slice_get arguments 0)) n
+faults-each (Applies g) e [] n = omega arith
+faults-each (Applies g) e (a ∷ arguments) n = omega arith
+faults-each o e [] n = omega arith
+faults-each o e (a ∷ arguments) n = omega arith
 
 pub instruction-faults : (e p : ℕ) (i : Instruction) → sum_by faults_by (instruction_steps e p i) ≡ fault_count i
-instruction-faults e p i = operation-faults i.operation e p i.arguments i.targets
-
--- ---- steps
-
-operation-made : (o : Operation) (e p : ℕ) (flip : Option ℕ) (ts : List Target) → sum_by one_by (operation_steps o e p flip ts) ≡ steps_made o (target_count o ts)
-operation-made (Applies g) e p flip ts = omega (arith, sum-gates one_by g 1 ts (λ t. refl) (λ a b. refl))
-operation-made (Measurement l) e p flip ts = omega (arith, sum-each one_by (measure_step l false flip) 1 ts (λ t. refl))
-operation-made (QubitReset l) e p flip ts = omega (arith, sum-each one_by (reset_step l) 1 ts (λ t. refl))
-operation-made (MeasurementReset l) e p flip ts = omega (arith, sum-each one_by (measure_step l true flip) 1 ts (λ t. refl))
-operation-made ProductMeasurement e p flip ts = omega (arith, sum-products one_by flip 1 p (products_of ts) (λ q inverted. refl))
-operation-made (PauliError l) e p flip ts = omega (arith, sum-faults one_by 1 e ts (λ k. refl))
-operation-made o e p flip ts = refl
+instruction-faults e p i =
+    instruction-sum (λ c. c.faults) e p i ∙ faults-each i.operation e i.arguments (target_count i.operation i.targets)
 
 pub instruction-made : (e p : ℕ) (i : Instruction) → sum_by one_by (instruction_steps e p i) ≡ made_count i
-instruction-made e p i = operation-made i.operation e p (flip_of e i.arguments) i.targets
+instruction-made e p i = omega (arith, instruction-sum (λ c. 1) e p i)
 
 -- ---- no more steps and faults of a program than an instruction counts as
 

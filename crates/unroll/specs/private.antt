@@ -13,7 +13,6 @@ pub mod MadeTotals
 pub mod Named
 pub mod Numbered
 pub mod Observables
-pub mod Passes
 pub mod Placing
 pub mod Pushed
 pub mod Steps

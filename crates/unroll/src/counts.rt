@@ -1,4 +1,4 @@
-ghost use Rattle.std.specs.Prelude.{◌≡◌};
+ghost use Rattle.std.specs.Prelude.{◌≡◌, ◌+◌, ◌*◌, ◌<◌, ◌^◌};
 ghost use Rattle.unroll.specs.private.MadeTotals.{faults_counted, steps_made, records_made, collapses_made, detectors_made, records_listed};
 
 use stim_parser::Operation;
@@ -84,4 +84,13 @@ pub(crate) fn steps_made(operation: Operation, targets: usize) -> usize
         Operation::CorrelatedError => 1,
         _ => collapses_made(operation, targets),
     }
+}
+
+/// The records behind this many later turns of a block, of which each makes `by`.
+#[inline(always)]
+pub(crate) fn records_behind(records: u64, turns: u64, by: u64) -> u64
+    requires { records + turns * by < 2 ^ 64 }
+    ensures { result ≡ records + turns * by }
+{
+    records + turns * by
 }

@@ -7,7 +7,7 @@ ghost use Rattle.flat_lists.specs.Turns.{later};
 ghost use Rattle.unroll.specs.private.Counted.{first_far_from};
 ghost use Rattle.unroll.specs.private.MadeTotals.{detector_total, record_count, record_total};
 
-use crate::counts::records_made;
+use crate::counts::{records_behind, records_made};
 use crate::marks::Mark;
 use crate::targets::target_count;
 use arrayvec::ArrayVec;
@@ -169,7 +169,7 @@ pub(crate) fn detectors_of<A: Allocator + Copy>(
                 let later = block.turns.saturating_sub(1);
                 let by = records.saturating_sub(block.before.place);
                 push_later_turns(&mut room, &mut detectors, block.before.found, later, by)?;
-                records += later * by;
+                records = records_behind(records, later, by);
             }
         }
     }

@@ -7,7 +7,7 @@ ghost use Rattle.unroll.specs.private.Observables.{observables_of};
 ghost use Rattle.unroll.specs.private.Counted.{first_far_from};
 ghost use Rattle.unroll.specs.private.MadeTotals.{record_count, record_total};
 
-use crate::counts::records_made;
+use crate::counts::{records_behind, records_made};
 use crate::detectors::record_named;
 use crate::marks::Mark;
 use crate::targets::target_count;
@@ -204,7 +204,7 @@ pub(crate) fn include_all<A: Allocator + Copy>(
                 let by = records.saturating_sub(block.before.place);
                 let noted = &notes[block.before.found..];
                 include_all_noted(lists, &mut closed, i + 1, noted, later, by)?;
-                records += later * by;
+                records = records_behind(records, later, by);
             }
         }
     }

@@ -1,8 +1,8 @@
 ghost use Rattle.std.specs.Prelude.{◌≡◌, ◌<◌, Some, IsSome, ◌↔◌};
 ghost use Rattle.arrayvec.specs.ArrayVec.{array_vec_len};
+ghost use Rattle.stim_lexer.specs.private.Passes.{CanStand, Passes};
 ghost use Rattle.stim_parser.specs.Circuits.{Fits};
 ghost use Rattle.stim_parser.specs.Kept.{instruction_in, item_in};
-ghost use Rattle.unroll.specs.private.Passes.{CanStand, Passes};
 ghost use Rattle.unroll.specs.private.Summed.{AreTotals, capped_sum, first_line, nothing_summed, repeated_sum, summing, totals_after, totals_repeated, SumsFit};
 ghost use Rattle.unroll.specs.private.MadeTotals.{has_argument};
 
@@ -165,7 +165,7 @@ impl Totals {
 impl Summing {
     /// Goes past an item.
     fn pass(&mut self, item: Item<'_, '_>)
-        requires { CanStand (item_in item) (array_vec_len self.old.blocks) }
+        requires { CanStand Fits (item_in item) (array_vec_len self.old.blocks) }
         ensures { Passes summing (item_in item.entry) self.old.totals self.old.blocks.items
             self.new.totals self.new.blocks.items }
     {

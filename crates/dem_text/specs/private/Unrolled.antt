@@ -8,7 +8,7 @@ use Rattle.stim_lexer.specs.declared.blocks.OpenBlock.{OpenBlock}
 use Rattle.dem_text.specs.declared.table_line.Stand.{Stand}
 use Rattle.dem_text.specs.declared.table_line.Stand.TheVariants as stand
 use Rattle.dem_text.specs.declared.unrolled.Unrolled.{Unrolled}
-use Rattle.dem_text.specs.private.Passes.{HasClosed, Pass, opened}
+use Rattle.stim_lexer.specs.private.Passes.{HasClosed, Pass, opened}
 use Rattle.dem_text.specs.Trees.{Tree}
 use Rattle.dem_text.specs.Verdicts.{Instruction}
 
@@ -37,7 +37,7 @@ abbrev pub counts_repeated : ℕ → Unrolled → Unrolled → Unrolled
 counts_repeated turns before after =
     record { inside = repeated_sum turns before.inside (capped_sum after.inside 1); outside = before.outside }
 
-abbrev pub counting : Pass Unrolled
+abbrev pub counting : Pass Instruction Unrolled
 counting = record { step = counts_after; close = counts_repeated }
 
 -- what a place does to the counts and to the open blocks, the outermost first

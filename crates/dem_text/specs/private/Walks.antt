@@ -9,7 +9,8 @@ use Rattle.dem_text.specs.Texts.{Item}
 use Rattle.stim_lexer.specs.Trees.{InstructionLine, BlockStart, BlockEnd, Nothing, Then, Block}
 use Rattle.dem_text.specs.Trees.{Tree}
 use Rattle.dem_text.specs.Verdicts.{Instruction}
-use Rattle.dem_text.specs.private.Passes.{AreWhole}
+use Rattle.stim_lexer.specs.private.Passes.{AreWhole}
+use Rattle.dem_text.specs.Fitting.{Fits}
 use Rattle.dem_text.specs.declared.table_line.Stand.{Stand}
 use Rattle.dem_text.specs.declared.table_line.Stand.TheVariants as stand
 use Rattle.dem_text.specs.declared.walk.Turns.{Turns}
@@ -76,11 +77,11 @@ lines_left items place blocks = lines_among (items_left items place blocks)
 abbrev pub AreOpen : List Item → List Turns → List Tree → Type 0
 AreOpen items [] trees = ⊤
 AreOpen items (b ∷ blocks) trees =
-    (drop 1 (trees_at items b.start) ≡ trees) × AreWhole (drop b.start items) (suc (length blocks)) × AreOpen items blocks (drop 1 trees)
+    (drop 1 (trees_at items b.start) ≡ trees) × AreWhole Fits (drop b.start items) (suc (length blocks)) × AreOpen items blocks (drop 1 trees)
 
 pub record IsWalk (items : List Item) (place : ℕ) (blocks : List Turns) : Type 0 where
   pub inside : AreOpen items blocks (drop 1 (trees_at items place))
-  pub whole : AreWhole (drop place items) (length blocks)
+  pub whole : AreWhole Fits (drop place items) (length blocks)
   pub few : length blocks ≤ 32
 
 -- ---- a walk that stands at a line or at the end

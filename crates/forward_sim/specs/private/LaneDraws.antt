@@ -7,6 +7,12 @@ use Rattle.forward_sim.specs.Drawn.{word_at}
 use Rattle.forward_sim.specs.Shots.{is_tossed}
 use Rattle.forward_sim.specs.declared.span.Span.{Span}
 
+-- there is a word for each fault of these bounds, and one for each coin of a span, whose coins are passed over
+pub record HasRoom (passed : Span) (bounds faults coins : List ℕ) : Type 0 where
+  pub faults_fit : length faults ≡ length bounds
+  pub order : passed.start ≤ passed.end
+  pub within : passed.end ≤ length coins
+
 pub record DrawsInto (j start end : ℕ) (hits : ℕ → Bool) (old new : List ℕ) : Type 0 where
   pub size : length new ≡ length old
   pub below : (k : ℕ) → k < start → slice_index new k ≡ slice_index old k

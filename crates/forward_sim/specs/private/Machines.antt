@@ -1,10 +1,14 @@
 -- What a run holds between two steps, and what a part of a step does to it.
 -- (Runs of stabilizer circuits: Aaronson and Gottesman, Phys. Rev. A 70, 052328.)
-use Rattle.std.specs.Prelude.{◌≡◌, ℕ, Bool, if◌then◌else◌, List, [], ◌∷◌, ◌++◌, Option, is_some}
+use Rattle.std.specs.Prelude.{◌≡◌, ◌≤◌, ℕ, ◌+◌, Bool, if◌then◌else◌, List, [], ◌∷◌, ◌++◌, length, Option, is_some}
 use Rattle.pauli_word.specs.declared.letter.Letter.{Letter}
 use Rattle.pauli_word.specs.Parity.{exclusive_or}
 use Rattle.pauli_word.specs.States.{State}
-use Rattle.programs.specs.Listed.{measured}
+use Rattle.programs.specs.declared.step.Step.{Step}
+use Rattle.programs.specs.Kept.{KeptProgram}
+use Rattle.programs.specs.Listed.{listed, measured}
+use Rattle.programs.specs.Named.{IsStepOf}
+use Rattle.step_model.specs.Listing.{step_records}
 use Rattle.step_model.specs.Runs.{RunState, corrected, correction}
 use Rattle.tableau.specs.Rows.{Rows, row_count, state_of}
 use Rattle.forward_sim.specs.private.SameRuns.{IsSameRun}
@@ -51,3 +55,9 @@ pub record ComesTo (old new : Running) (m : RunState) : Type 0 where
   pub qubits : qubit_count new ≡ qubit_count old
   pub room : new.room ≡ old.room
   pub run : IsSameRun (qubit_count old) (run_of new) m
+
+-- a step of a program can be taken on n qubits, where so many records are made and there is room for so many
+pub record CanTake (program : KeptProgram) (step : Step) (n made most : ℕ) : Type 0 where
+  pub of_program : IsStepOf program step
+  pub qubits : n ≡ program.listing.qubits
+  pub room : made + length (step_records (listed program.listing.qubits program.products step)) ≤ most

@@ -1,10 +1,13 @@
 -- 64 runs of a program side by side, and what is shown of them.
 -- (This project's own.)
-use Rattle.std.specs.Prelude.{ℕ, ◌+◌, Bool, List, [], length}
+use Rattle.std.specs.Prelude.{◌≡◌, ℕ, ◌+◌, Bool, List, [], length}
 use Rattle.step_model.specs.Frames.{zero_coins}
 use Rattle.step_model.specs.Listing.{Listing}
 use Rattle.step_model.specs.Runs.{records_of}
 use Rattle.step_model.specs.Targets.{difference}
+use Rattle.forward_sim.specs.Drawn.{bounds_of}
+use Rattle.forward_sim.specs.Shots.{ShotWords}
+use Rattle.frames.specs.Batches.{DontCount}
 use Rattle.sampling.specs.declared.side_runs.Shown.{Shown}
 use Rattle.sampling.specs.declared.side_runs.Shown.TheVariants.{Records, Detections}
 
@@ -13,6 +16,13 @@ pub record ShownRuns : Type 0 where
   pub program : Listing
   pub shown : Shown
   pub words : List ℕ
+
+-- drawn shots are of the program of runs, and coins that they pass over don't count; there is room for a line
+pub record FitTogether (drawn : ShotWords) (runs : ShownRuns) (room : List ℕ) : Type 0 where
+  pub bounds : drawn.bounds ≡ bounds_of runs.program
+  pub coins : length drawn.coins ≡ runs.program.collapses
+  pub passed : DontCount runs.program drawn.passed
+  pub line : length room ≡ length runs.words + 1
 
 -- how many truth values are shown of a run
 abbrev pub shown_count : Shown → Listing → ℕ

@@ -6,7 +6,7 @@ use Rattle.std.specs.Prelude.{ℕ, ◌-◌, List, [], ◌∷◌, ◌++◌, drop,
 use Rattle.flat_lists.specs.Turns.{later}
 use Rattle.stim_parser.specs.Verdicts.{Instruction}
 use Rattle.unroll.specs.declared.marks.Mark.{Mark}
-use Rattle.unroll.specs.private.Passes.{Pass}
+use Rattle.stim_lexer.specs.private.Passes.{Pass}
 
 -- where the pass stands, and what is found so far
 pub record Gathered (P X : Type 0) : Type 0 where
@@ -37,7 +37,7 @@ closed g turns before s =
       found = s.found ++ later (λ n. g.moved n before.place s.place) (turns - 1) (drop before.found s.found);
     }
 
-abbrev pub gathering : {P X : Type 0} → Gathering P X → Pass (Gathered P X)
+abbrev pub gathering : {P X : Type 0} → Gathering P X → Pass Instruction (Gathered P X)
 gathering g = record { step = stepped g; close = λ turns before s. closed g turns (mark_of before) s }
 
 -- ---- instructions as they are reached

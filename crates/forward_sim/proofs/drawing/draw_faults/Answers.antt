@@ -1,21 +1,17 @@
 -- Each fault takes the next word.
-use Rattle.std.proofs.Common.{◌≡◌, length-set, refl, ap, sym, ◌∙◌, arith}
-use Rattle.std.specs.Prelude.{ℕ, nat_lt, slice_index_or}
-use Rattle.rand_pcg.specs.Lcg.{Lcg, next}
-use Rattle.rand_pcg.specs.Pcg.{pcg64, multiplier_128}
-use Rattle.forward_sim.specs.Drawn.{word_at}
-use Rattle.forward_sim.proofs.WordLemmas.{after_words-none, after_words-more, filled_more}
+use Rattle.std.proofs.Common.{length, ap, arith}
+use Rattle.std.specs.Prelude.{nat_lt, slice_index_or}
+use Rattle.forward_sim.proofs.WordLemmas.{filled_none, filled_on}
 use Rattle.forward_sim.proofs.drawing.draw_faults.Goals as goal
+
+pub loop-f-init : goal.loop-f-init
+loop-f-init c =
+    let bounds = c.args.bounds.now in
+    filled_none (λ k w. nat_lt w (slice_index_or bounds k 0)) (length bounds) c.args.rng.now c.args.faults.now c.requires
 
 pub loop-f-preserved : goal.loop-f-preserved
 loop-f-preserved c =
-    let word : c.next_word.result ≡ word_at c.args.rng.now c.loop-f.f = ap (λ (p : ℕ × Lcg). p.0) c.next_word.ensures ∙ ap (λ r. (pcg64 r).0) c.loop-f.invariant.taken in
-    record {
-      size = length-set _ _ _ ∙ c.loop-f.invariant.size;
-      drawn = filled_more (λ f. nat_lt (word_at c.args.rng.now f) (slice_index_or c.args.bounds.now f 0)) c.loop-f.faults c.loop-f.f _ (omega (arith, c.loop-f.invariant.size))
-          (ap (λ w. nat_lt w (slice_index_or c.args.bounds.now c.loop-f.f 0)) (c.from-word.ensures ∙ word)) c.loop-f.invariant.drawn;
-      taken = ap (λ (p : ℕ × Lcg). p.1) c.next_word.ensures ∙ (ap (next 128 multiplier_128) c.loop-f.invariant.taken ∙ after_words-more c.loop-f.f c.args.rng.now);
-    }
-
-pub loop-f-init : goal.loop-f-init
-loop-f-init c = record { size = c.requires; drawn = refl; taken = sym (after_words-none c.args.rng.now) }
+    let l = c.loop-f in
+    let bounds = c.args.bounds.now in
+    filled_on (λ k w. nat_lt w (slice_index_or bounds k 0)) (length bounds) c.args.rng.now l.rng c.next_word.new.self l.f c.next_word.result l.faults _ (omega (arith, l.invariant.size)) l.invariant c.next_word.ensures
+    (ap (λ w. nat_lt w (slice_index_or bounds l.f 0)) c.from-word.ensures)

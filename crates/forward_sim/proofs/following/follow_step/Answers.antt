@@ -20,6 +20,6 @@ returns-in-Collapse-clause-run g c =
     let ended : ComesTo old new (after_collapse (lone_letter (qubit_count old) s.qubit s.letter) (correction (qubit_count old) (measured (qubit_count old) s.reset s.letter s.qubit)) (is_some s.rec) s.inverted (run_of old)) =
     letter_ends old mid new s.letter s.qubit s.reset s.rec s.inverted seen.result seen.ensures.run seen.ensures.outcome c.end_collapse.ensures in
     let of_program : ComesTo old new (after_collapse (lone_letter program.qubits s.qubit s.letter) (correction program.qubits (measured program.qubits s.reset s.letter s.qubit)) (is_some s.rec) s.inverted (run_of old)) =
-    subst (λ n. ComesTo old new (after_collapse (lone_letter n s.qubit s.letter) (correction n (measured n s.reset s.letter s.qubit)) (is_some s.rec) s.inverted (run_of old))) c.requires.qubits ended in
+    subst (λ n. ComesTo old new (after_collapse (lone_letter n s.qubit s.letter) (correction n (measured n s.reset s.letter s.qubit)) (is_some s.rec) s.inverted (run_of old))) c.requires.step.qubits ended in
     subst (λ step. ComesTo old new (next program [] (listed program.qubits products step) (run_of old))) (sym s.is)
     (subst (ComesTo old new) (letter_next program products s.letter s.qubit s.rec s.reset s.inverted s.flip (run_of old)) of_program)

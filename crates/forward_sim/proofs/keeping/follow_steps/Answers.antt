@@ -1,11 +1,12 @@
 -- Each step leads from what is left before it to what is left behind it, and keeps what is kept of it.
-use Rattle.std.proofs.Common.{◌≡◌, [], length, drop, sym, ap, subst, ◌∙◌, arith}
+use Rattle.std.proofs.Common.{◌≡◌, [], length, drop, sym, ap, subst, ◌∙◌}
 use Rattle.step_model.specs.Frames.{zero_coins}
 use Rattle.step_model.specs.Runs.{next, records_of}
-use Rattle.forward_sim.specs.References.{walking_run}
+use Rattle.forward_sim.specs.References.{walking_qubits, walking_run}
 use Rattle.forward_sim.specs.private.SameRuns.{IsSameRun}
 use Rattle.forward_sim.proofs.ReferenceSteps.{KeepsRest, entries_at_end, keeps_at_start, keeps_after_step, reference_records}
-use Rattle.forward_sim.proofs.RunRecords.{MakesRest, rest_at_start, step_is_next, rest_after_step, length-records_of}
+use Rattle.forward_sim.proofs.RunLoops.{along_can, along_on, along_start}
+use Rattle.forward_sim.proofs.RunRecords.{length-records_of}
 use Rattle.forward_sim.proofs.WalkedSteps.{GoesOver, goes_over, listed_of, nothing_left}
 use Rattle.forward_sim.proofs.keeping.follow_steps.Given.{Over}
 use Rattle.forward_sim.proofs.keeping.follow_steps.Goals as goal
@@ -19,43 +20,43 @@ over g c =
 pub loop-step-init : goal.loop-step-init
 loop-step-init g c =
     let program = c.args.program.now.listing in
-    let m = walking_run c.args.walk.now in
+    let walk = c.args.walk.now in
+    let m = walking_run walk in
     let kept = c.args.kept.now.replaced in
     record {
       program = c.start-steps.ensures.program;
-      qubits = c.requires.qubits;
-      room = c.requires.room;
-      rest = subst (λ k. MakesRest program [] [] k m) (sym c.start-steps.ensures.place) (rest_at_start program [] [] m c.well_formed-2.ensures.listing c.requires.starts);
+      along = along_start program [] [] _ (walking_qubits walk) walk.room m c.well_formed-2.ensures.listing c.start-steps.ensures.place c.requires.qubits c.requires.room c.requires.starts;
       kept = λ whole. subst (λ k. KeepsRest program k m kept) (sym c.start-steps.ensures.place) (keeps_at_start program m kept c.well_formed-2.ensures.listing c.requires.starts c.requires.empty);
     }
 
-pub keep_step-requires-clause-room : goal.keep_step-requires-clause-room
-keep_step-requires-clause-room g c =
-    let here = (goal.at.keep_step-requires-clause-room g c).In-Some in
-    let next = step_is_next c.args.program.now.listing [] [] _ _ (listed_of c.args.program.now c.in-Some.step) _ c.well_formed-2.ensures.listing (over g here).left c.loop-step.invariant.rest in
-    omega (arith, next.room)
+pub keep_step-requires : goal.keep_step-requires
+keep_step-requires g c =
+    let here = (goal.at.keep_step-requires g c).In-Some in
+    let walk = c.loop-step.walk in
+    along_can c.args.program.now c.loop-step.steps c.next_step.new.self c.in-Some.step [] [] (walking_qubits walk) walk.room (walking_run walk) c.well_formed-2.ensures.listing (over g here) c.loop-step.invariant.along
 
 pub loop-step-smaller : goal.loop-step-smaller
 loop-step-smaller g c = (over g (goal.at.loop-step-smaller g c).In-Some).smaller
 
 pub loop-step-preserved : goal.loop-step-preserved
 loop-step-preserved g c =
-    let here = (goal.at.loop-step-preserved g c).In-Some in
-    let walked = over g here in
+    let walked = over g (goal.at.loop-step-preserved g c).In-Some in
     let program = c.args.program.now.listing in
-    let before = walking_run c.loop-step.walk in
-    let after = walking_run c.keep_step.new.walk in
+    let old = c.loop-step.walk in
+    let new = c.keep_step.new.walk in
+    let along = c.loop-step.invariant.along in
+    let taken = c.in_ok-keep_step.ensures.walked in
     let well_formed = c.well_formed-2.ensures.listing in
-    let same : IsSameRun program.qubits after (next program [] (listed_of c.args.program.now c.in-Some.step) before) =
-    subst (λ n. IsSameRun n after (next program [] (listed_of c.args.program.now c.in-Some.step) before)) c.loop-step.invariant.qubits c.in_ok-keep_step.ensures.walked.run in
+    let step = listed_of c.args.program.now c.in-Some.step in
     record {
       program = walked.program_is;
-      qubits = c.in_ok-keep_step.ensures.walked.qubits ∙ c.loop-step.invariant.qubits;
-      room = c.in_ok-keep_step.ensures.walked.room ∙ c.loop-step.invariant.room;
-      rest = rest_after_step program [] [] _ _ (listed_of c.args.program.now c.in-Some.step) before after well_formed walked.left c.loop-step.invariant.rest same;
+      along =
+          along_on c.args.program.now c.loop-step.steps c.next_step.new.self c.in-Some.step [] [] (walking_qubits old) old.room (walking_run old) well_formed walked along
+          (walking_qubits new) new.room (walking_run new) taken.qubits taken.room taken.run;
       kept = λ whole.
           let step_kept = c.in_ok-keep_step.ensures.kept whole in
-          keeps_after_step program _ _ (listed_of c.args.program.now c.in-Some.step) before after c.loop-step.kept.replaced c.keep_step.new.kept.replaced well_formed walked.left c.loop-step.invariant.rest same step_kept.1 (c.loop-step.invariant.kept step_kept.0);
+          keeps_after_step program _ _ step (walking_run old) (walking_run new) c.loop-step.kept.replaced c.keep_step.new.kept.replaced well_formed walked.left along.rest
+          (subst (λ n. IsSameRun n (walking_run new) (next program [] step (walking_run old))) along.qubits taken.run) step_kept.1 (c.loop-step.invariant.kept step_kept.0);
     }
 
 -- at the end nothing is left
@@ -64,7 +65,7 @@ none g c = nothing_left c.args.program.now c.loop-step.steps c.loop-step.invaria
 
 all_records : (g : Over) (c : In_default g) → c.loop-step.walk.records ≡ records_of c.args.program.now.listing [] (zero_coins c.args.program.now.listing)
 all_records g c =
-    reference_records c.args.program.now.listing c.loop-step.steps.place (walking_run c.loop-step.walk) (none g c) c.loop-step.invariant.rest
+    reference_records c.args.program.now.listing c.loop-step.steps.place (walking_run c.loop-step.walk) (none g c) c.loop-step.invariant.along.rest
 
 pub returns-clause-records : goal.returns-clause-records
 returns-clause-records g c = c.take_records.ensures ∙ all_records g (goal.at.returns-clause-records g c).In_default

@@ -1,17 +1,15 @@
 use Rattle.std.proofs.Common.{◌≡◌, ◌-◌, [], true, length}
 use Rattle.forward_sim.specs.References.{walking_qubits, walking_run}
 use Rattle.forward_sim.proofs.ReferenceSteps.{KeepsRest}
-use Rattle.forward_sim.proofs.RunRecords.{MakesRest}
+use Rattle.forward_sim.proofs.RunLoops.{GoesAlong}
 use Rattle.forward_sim.proofs.keeping.follow_steps.Given as goal
 
--- the steps that are left make the records of the whole run, and what is kept of them goes behind what is kept
+-- what is kept of the steps that are left goes behind what is kept
 abbrev pub invariant-loop-step : goal.invariant-loop-step
 invariant-loop-step g l =
     record {
       program : l.steps.program ≡ l.program;
-      qubits : walking_qubits l.walk ≡ l.program.listing.qubits;
-      room : l.walk.room ≡ l.program.listing.records;
-      rest : MakesRest l.program.listing [] [] l.steps.place (walking_run l.walk);
+      along : GoesAlong l.program.listing [] [] l.steps.place (walking_qubits l.walk) l.walk.room (walking_run l.walk);
       kept : l.kept.whole ≡ true → KeepsRest l.program.listing l.steps.place (walking_run l.walk) l.kept.replaced;
     }
 

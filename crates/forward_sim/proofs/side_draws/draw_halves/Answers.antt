@@ -18,13 +18,13 @@ loop-lane-init c =
     let faults = c.fill.ensures.after (λ y h. h) in
     let coins = c.fill-2.ensures.after (λ y h. h) in
     let words : length c.fill.new.self + length c.fill-2.new.self ≡ n + collapses =
-    ap₂ (λ a b. a + b) (c.fill.ensures.len ∙ c.requires.faults) c.fill-2.ensures.len in
+    ap₂ (λ a b. a + b) (c.fill.ensures.len ∙ c.requires.room.faults_fit) c.fill-2.ensures.len in
     let whole : half ≡ half + 0 = omega arith in
     record {
       drawn =
           subst (λ words. HalvesDrawn c.args.passed bounds collapses half 0 g c.fill.new.self words) (sym coins)
           (subst (λ words. HalvesDrawn c.args.passed bounds collapses half 0 g words (replicate collapses 0)) (sym faults)
-          (no_halves c.args.passed bounds (length c.args.faults.now) collapses half g c.requires.faults));
+          (no_halves c.args.passed bounds (length c.args.faults.now) collapses half g c.requires.room.faults_fit));
       first = sym (none_taken n collapses g);
       second =
           c.advance.ensures

@@ -1,6 +1,6 @@
 use Rattle.std.proofs.Common.{◌≡◌, [], length, ap, ◌∙◌}
 use Rattle.std.proofs.lemmas.Result.{IfOk-weaker}
-use Rattle.run_laws.proofs.ShiftSteps.{length-cleared, length-multiplied}
+use Rattle.step_model.proofs.SensitivityLengths.{length-cleared, length-multiplied}
 use Rattle.plain_runs.specs.private.PlainSteps.{measured}
 use Rattle.plain_runs.proofs.sensitivities.before_collapse.Goals as goal
 

@@ -1,10 +1,7 @@
 -- Batch after batch.
-use Rattle.std.proofs.Common.{◌≡◌, ◌+◌, ◌-◌, ◌++◌, length, refl, sym, ap, ap₂, subst, subst₂, ◌∙◌, arith}
-use Rattle.step_model.specs.Listing.{Listing}
+use Rattle.std.proofs.Common.{◌≡◌, ◌+◌, ◌-◌, ◌++◌, length, refl, sym, ap, ap₂, subst, ◌∙◌, arith}
 use Rattle.streams.specs.Pushed.{Pushes}
 use Rattle.streams.proofs.Pushing.{Pushes-nil, Pushes-trans}
-use Rattle.forward_sim.specs.Drawn.{bounds_of}
-use Rattle.frames.specs.Batches.{DontCount}
 use Rattle.forward_sim.proofs.SideLemmas.{none_taken}
 use Rattle.sampling.specs.Sampled.{lines_from, shot_generator}
 use Rattle.sampling.specs.Shown.{shown_line}
@@ -21,10 +18,7 @@ loop-left-init g c =
       within = omega arith;
       same = refl;
       shown = refl;
-      bounds = c.requires.bounds;
-      coins = c.requires.coins;
-      passed = refl;
-      line = c.requires.line;
+      fit = c.requires;
       lines =
           subst (λ n. Pushes g.W.Sink.taken g.W.Sink.failures c.args.sink.now c.args.sink.now c.args.out.now c.args.out.now (lines_from (shown_line c.args.runs.now.shown) program n rng))
           (sym none) Pushes-nil;
@@ -36,14 +30,7 @@ overflow_sub-left g c = omega (arith, c.from-left.ensures, c.next_count-count.en
 
 pub push_batch-requires : goal.push_batch-requires
 push_batch-requires g c =
-    let at = c.loop-left.invariant in
-    record {
-      bounds = at.bounds ∙ ap bounds_of (sym at.same);
-      coins = at.coins ∙ ap (λ (p : Listing). p.collapses) (sym at.same);
-      passed = subst₂ DontCount (sym at.same) (sym at.passed) c.requires.passed;
-      line = at.line;
-      count = c.next_count-count.ensures.few;
-    }
+    record { fit = c.loop-left.invariant.fit; count = c.next_count-count.ensures.few }
 
 pub loop-left-preserved : goal.loop-left-preserved
 loop-left-preserved g c =
@@ -66,10 +53,7 @@ loop-left-preserved g c =
       within = omega (arith, at.within);
       same = batch.program ∙ at.same;
       shown = batch.shown ∙ at.shown;
-      bounds = batch.bounds ∙ ap bounds_of at.same;
-      coins = batch.coins ∙ ap (λ (p : Listing). p.collapses) at.same;
-      passed = batch.passed ∙ at.passed;
-      line = batch.line;
+      fit = batch.fit;
       lines =
           subst (λ bytes. Pushes g.W.Sink.taken g.W.Sink.failures c.args.sink.now c.push_batch.new.sink c.args.out.now c.push_batch.new.out bytes) text
           (Pushes-trans at.lines batch.lines);

@@ -1,8 +1,8 @@
-use Rattle.std.proofs.Common.{◌≡◌, ◌+◌, ◌-◌, ◌≤◌, length}
+use Rattle.std.proofs.Common.{◌≡◌, ◌-◌, ◌≤◌}
 use Rattle.streams.specs.Pushed.{Pushes}
-use Rattle.forward_sim.specs.Drawn.{bounds_of}
 use Rattle.sampling.specs.Sampled.{lines_from, shot_generator}
 use Rattle.sampling.specs.Shown.{shown_line}
+use Rattle.sampling.specs.private.ShownRuns.{FitTogether}
 use Rattle.sampling.proofs.batches.push_shots.Given as goal
 
 -- the lines of the shots so far were pushed, and the generator stands at the next one
@@ -13,10 +13,7 @@ invariant-loop-left g l =
       within : l.left ≤ l.shots;
       same : l.runs.program ≡ program;
       shown : l.runs.shown ≡ l.fn.runs.shown;
-      bounds : l.drawn.bounds ≡ bounds_of program;
-      coins : length l.drawn.coins ≡ program.collapses;
-      passed : l.drawn.passed ≡ l.fn.drawn.passed;
-      line : length l.line ≡ length l.runs.words + 1;
+      fit : FitTogether l.drawn l.runs l.line;
       lines : Pushes g.W.Sink.taken g.W.Sink.failures l.fn.sink l.sink l.fn.out l.out (lines_from (shown_line l.fn.runs.shown) program (l.shots - l.left) l.fn.rng);
       taken : l.rng ≡ shot_generator program l.fn.rng (l.shots - l.left);
     }

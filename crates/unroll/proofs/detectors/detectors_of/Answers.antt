@@ -63,46 +63,39 @@ push_later_turns-requires g c =
       small = within-limit c.loop-i.records (c.saturating_sub-later.result * c.saturating_sub-by.result) 4294967296 c.loop-i.detectors few c.loop-i.invariant.within;
     }
 
-pub overflow_mul-records : goal.overflow_mul-records
-overflow_mul-records g c =
-    omega (arith, few_behind g (goal.at.overflow_mul-records g c).After-saturating_sub-by)
-
-pub overflow_add-records-in-BlockEnd : goal.overflow_add-records-in-BlockEnd
-overflow_add-records-in-BlockEnd g c =
-    omega (arith, few_behind g (goal.at.overflow_add-records-in-BlockEnd g c).After-saturating_sub-by)
+pub records_behind-records-requires : goal.records_behind-records-requires
+records_behind-records-requires g c =
+    omega (arith, few_behind g (goal.at.records_behind-records-requires g c).After-saturating_sub-by)
 
 pub loop-i-preserved : goal.loop-i-preserved
 loop-i-preserved g c =
     let t = c.args.circuit.now in
-    let i = c.loop-i.i in
-    let r = c.loop-i.records in
-    let lists = c.loop-i.detectors in
-    let blocks = c.loop-i.blocks.items in
+    let l = c.loop-i in
     elim c.match-item.branch [
       | in-InstructionLine+in_ok-push_detector-in-InstructionLine w ↦
           let x = instruction_in w.in-InstructionLine.instruction in
           let made = w.records_made.ensures ∙ ap (records_made w.in-InstructionLine.instruction.operation) w.target_count.ensures.value in
-          counting-same t (i + 1) (r + record_count x) c.match-item.records (lists ++ operation_detectors r x.operation x.targets) c.match-item.detectors blocks c.match-item.blocks.items
-          (counting-does detecting-counts t i r lists blocks x c.loop-i.invariant w.in-InstructionLine.ensures)
-          (w.records-is ∙ ap (λ (n : ℕ). r + n) made)
+          counting-same t (l.i + 1) (l.records + record_count x) c.match-item.records (l.detectors ++ operation_detectors l.records x.operation x.targets) c.match-item.detectors l.blocks.items c.match-item.blocks.items
+          (counting-does detecting-counts t l.i l.records l.detectors l.blocks.items x l.invariant w.in-InstructionLine.ensures)
+          (w.records-is ∙ ap (λ (n : ℕ). l.records + n) made)
           (w.detectors-is ∙ w.in_ok-push_detector-in-InstructionLine.ensures)
           (ap (λ v. v.items) w.blocks-is)
       | in-BlockStart w ↦
-          counting-same t (i + 1) r c.match-item.records lists c.match-item.detectors (blocks ++ record { turns = w.in-BlockStart.turns; before = record { place = r; found = length lists } } ∷ []) c.match-item.blocks.items
-          (counting-begins t i r lists blocks w.in-BlockStart.line w.in-BlockStart.turns c.loop-i.invariant w.in-BlockStart.ensures)
+          counting-same t (l.i + 1) l.records c.match-item.records l.detectors c.match-item.detectors (l.blocks.items ++ record { turns = w.in-BlockStart.turns; before = record { place = l.records; found = length l.detectors } } ∷ []) c.match-item.blocks.items
+          (counting-begins t l.i l.records l.detectors l.blocks.items w.in-BlockStart.line w.in-BlockStart.turns l.invariant w.in-BlockStart.ensures)
           w.records-is
           w.detectors-is
           (ap (λ v. v.items) w.blocks-is
           ∙ w.push.ensures.items
-          ∙ ap (λ (n : ℕ). blocks ++ record { turns = w.in-BlockStart.turns; before = record { place = r; found = n } } ∷ []) w.len.ensures)
+          ∙ ap (λ (n : ℕ). l.blocks.items ++ record { turns = w.in-BlockStart.turns; before = record { place = l.records; found = n } } ∷ []) w.len.ensures)
       | in-BlockEnd+in_ok-push_later_turns-in-BlockEnd w ↦
           let n = w.saturating_sub-later.result in
           let by = w.saturating_sub-by.result in
           let block = w.unwrap-block.result in
-          let popped : HasPopped blocks w.pop.new.self.items w.pop.result block r n by = record { rest_is = w.pop.ensures.items; block_is = w.unwrap-block.ensures; turns_is = w.saturating_sub-later.ensures; by_is = w.saturating_sub-by.ensures } in
-          counting-same t (i + 1) (r + n * by) c.match-item.records (with_turns records_moved block n by lists) c.match-item.detectors w.pop.new.self.items c.match-item.blocks.items
-          (counting-ends detecting-counts t i r lists blocks w.pop.new.self.items w.pop.result block n by c.loop-i.invariant w.in-BlockEnd.ensures popped)
-          w.records-is
+          let popped : HasPopped l.blocks.items w.pop.new.self.items w.pop.result block l.records n by = record { rest_is = w.pop.ensures.items; block_is = w.unwrap-block.ensures; turns_is = w.saturating_sub-later.ensures; by_is = w.saturating_sub-by.ensures } in
+          counting-same t (l.i + 1) (l.records + n * by) c.match-item.records (with_turns records_moved block n by l.detectors) c.match-item.detectors w.pop.new.self.items c.match-item.blocks.items
+          (counting-ends detecting-counts t l.i l.records l.detectors l.blocks.items w.pop.new.self.items w.pop.result block n by l.invariant w.in-BlockEnd.ensures popped)
+          (w.records-is ∙ w.records_behind-records.ensures)
           (w.detectors-is ∙ w.in_ok-push_later_turns-in-BlockEnd.ensures)
           (ap (λ v. v.items) w.blocks-is)
     ]

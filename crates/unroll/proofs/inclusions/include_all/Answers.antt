@@ -107,13 +107,9 @@ include_all_noted-requires g c =
       small = including-small t i r n (c.saturating_sub-later.result * c.saturating_sub-by.result) 4294967296 lists notes closed blocks c.loop-i.invariant few;
     }
 
-pub overflow_mul-records : goal.overflow_mul-records
-overflow_mul-records g c =
-    omega (arith, few_behind g (goal.at.overflow_mul-records g c).After-saturating_sub-by)
-
-pub overflow_add-records-in-BlockEnd : goal.overflow_add-records-in-BlockEnd
-overflow_add-records-in-BlockEnd g c =
-    omega (arith, few_behind g (goal.at.overflow_add-records-in-BlockEnd g c).After-saturating_sub-by)
+pub records_behind-records-requires : goal.records_behind-records-requires
+records_behind-records-requires g c =
+    omega (arith, few_behind g (goal.at.records_behind-records-requires g c).After-saturating_sub-by)
 
 pub loop-i-preserved : goal.loop-i-preserved
 loop-i-preserved g c =
@@ -159,7 +155,7 @@ loop-i-preserved g c =
           let tail : part ≡ drop start notes = ap (λ (xs : List Note). take (length xs - start) (drop start xs)) w.deref.ensures.value ∙ tail-is notes start in
           including-same t (i + 1) (r + m * by) c.match-item.records n w.include_all_noted.new.lists c.match-item.lists notes c.match-item.notes.items w.include_all_noted.new.closed.items c.match-item.closed.items rest c.match-item.blocks.items
           (including-ends t i r n lists w.include_all_noted.new.lists notes part closed w.include_all_noted.new.closed.items blocks rest w.pop.result block m by c.loop-i.invariant w.in-BlockEnd.ensures popped tail w.in_ok-include_all_noted-in-BlockEnd.ensures)
-          w.records-is
+          (w.records-is ∙ w.records_behind-records.ensures)
           w.lists-is
           (ap (λ v. v.items) w.notes-is)
           (ap (λ v. v.items) w.closed-is)

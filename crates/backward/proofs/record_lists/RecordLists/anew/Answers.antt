@@ -1,10 +1,8 @@
 use Rattle.std.proofs.Common.{◌≡◌, ◌<◌, ℕ, Bool, false, [], List, length, get_or, set, length-set, inl, inr, ap, subst, sym, ◌∙◌, arith}
 use Rattle.std.specs.Prelude.{All, replicate}
 use Rattle.std.proofs.lemmas.Bool.{cases_eq}
-use Rattle.std.proofs.lemmas.List.{ext_get_or, get_or-replicate, get_or-set_other, get_or-set_same, length-map, length-replicate}
-use Rattle.backward.specs.private.Links.{list_at}
-use Rattle.trackers.specs.TargetSets.{row_of_set}
-use Rattle.backward.proofs.LinkLemmas.{rows_of_length, put_members}
+use Rattle.std.proofs.lemmas.List.{ext_get_or, get_or-replicate, get_or-set_other, get_or-set_same, length-replicate}
+use Rattle.backward.proofs.LinkLemmas.{put_members, rows_counted, rows_of_length}
 use Rattle.trackers.proofs.RangeLemmas.{members_within}
 use Rattle.backward.proofs.record_lists.RecordLists.anew.Goals as goal
 
@@ -14,7 +12,7 @@ loop-rec-init g c =
     let links = c.self.inside.links.items in
     let places = c.self.inside.places.items in
     let sets = c.args.self.now in
-    let count : length places ≡ length sets = sym (length-map places (λ k. row_of_set m (list_at links k))) ∙ ap length c.self.view_is in
+    let count = rows_counted c.self.inside.targets c.self.inside.links.items c.self.inside.places.items sets c.self.view_is in
     let many : c.len-records.result ≡ length sets = omega (arith, count, c.len-records.ensures) in
     record {
       long = ap length c.in_ok-lists.ensures ∙ (length-replicate c.len-records.result (replicate m false) ∙ many);
@@ -27,36 +25,24 @@ loop-rec-init g c =
 
 pub list-requires-clause-rec : goal.list-requires-clause-rec
 list-requires-clause-rec g c =
-    let m = c.self.inside.targets in
-    let links = c.self.inside.links.items in
-    let places = c.self.inside.places.items in
-    let count : length places ≡ length c.args.self.now = sym (length-map places (λ k. row_of_set m (list_at links k))) ∙ ap length c.self.view_is in
+    let count = rows_counted c.self.inside.targets c.self.inside.links.items c.self.inside.places.items c.args.self.now c.self.view_is in
     omega (arith, count, c.len-records.ensures, c.loop-rec-test.true)
 
 pub list-requires-clause-long : goal.list-requires-clause-long
 list-requires-clause-long g c =
-    let m = c.self.inside.targets in
-    let links = c.self.inside.links.items in
-    let places = c.self.inside.places.items in
-    let count : length places ≡ length c.args.self.now = sym (length-map places (λ k. row_of_set m (list_at links k))) ∙ ap length c.self.view_is in
+    let count = rows_counted c.self.inside.targets c.self.inside.links.items c.self.inside.places.items c.args.self.now c.self.view_is in
     c.requires c.loop-rec.rec [] (omega (arith, count, c.len-records.ensures, c.loop-rec-test.true))
 
 pub put-requires-clause-rec : goal.put-requires-clause-rec
 put-requires-clause-rec g c =
-    let m = c.self.inside.targets in
-    let links = c.self.inside.links.items in
-    let places = c.self.inside.places.items in
-    let count : length places ≡ length c.args.self.now = sym (length-map places (λ k. row_of_set m (list_at links k))) ∙ ap length c.self.view_is in
+    let count = rows_counted c.self.inside.targets c.self.inside.links.items c.self.inside.places.items c.args.self.now c.self.view_is in
     omega (arith, count, c.len-records.ensures, c.loop-rec-test.true, c.loop-rec.invariant.long)
 
 pub put-requires-clause-targets : goal.put-requires-clause-targets
 put-requires-clause-targets g c =
-    let m = c.self.inside.targets in
-    let links = c.self.inside.links.items in
-    let places = c.self.inside.places.items in
     let sets = c.args.self.now in
     let rec = c.loop-rec.rec in
-    let count : length places ≡ length sets = sym (length-map places (λ k. row_of_set m (list_at links k))) ∙ ap length c.self.view_is in
+    let count = rows_counted c.self.inside.targets c.self.inside.links.items c.self.inside.places.items sets c.self.view_is in
     let within : rec < length sets = omega (arith, count, c.len-records.ensures, c.loop-rec-test.true) in
     let n = length (get_or sets rec []) in
     let long : length (get_or c.loop-rec.lists rec []) ≡ n = ap length (c.loop-rec.invariant.left rec (omega arith) within) ∙ length-replicate n false in
@@ -65,14 +51,11 @@ put-requires-clause-targets g c =
 
 pub loop-rec-preserved : goal.loop-rec-preserved
 loop-rec-preserved g c =
-    let m = c.self.inside.targets in
-    let links = c.self.inside.links.items in
-    let places = c.self.inside.places.items in
     let sets = c.args.self.now in
     let lists = c.loop-rec.lists in
     let rec = c.loop-rec.rec in
     let held = c.loop-rec.invariant in
-    let count : length places ≡ length sets = sym (length-map places (λ k. row_of_set m (list_at links k))) ∙ ap length c.self.view_is in
+    let count = rows_counted c.self.inside.targets c.self.inside.links.items c.self.inside.places.items sets c.self.view_is in
     let within : rec < length sets = omega (arith, count, c.len-records.ensures, c.loop-rec-test.true) in
     let row = get_or sets rec [] in
     let is_set : c.put.new.self ≡ set lists rec row =
@@ -92,10 +75,7 @@ loop-rec-preserved g c =
 
 pub returns : goal.returns
 returns g c =
-    let m = c.self.inside.targets in
-    let links = c.self.inside.links.items in
-    let places = c.self.inside.places.items in
     let sets = c.args.self.now in
-    let count : length places ≡ length sets = sym (length-map places (λ k. row_of_set m (list_at links k))) ∙ ap length c.self.view_is in
+    let count = rows_counted c.self.inside.targets c.self.inside.links.items c.self.inside.places.items sets c.self.view_is in
     ext_get_or [] c.loop-rec.lists sets c.loop-rec.invariant.long
     (λ k lt. c.loop-rec.invariant.done k (omega (arith, lt, c.loop-rec.invariant.long, count, c.len-records.ensures, c.loop-rec-test.false)))

@@ -1,11 +1,7 @@
-use Rattle.std.proofs.Common.{◌≡◌, refl, ◌<◌, [], List, Bool, length, get_or, set, ap, subst, sym, ◌∙◌, arith}
-use Rattle.std.specs.Prelude.{All}
-use Rattle.std.proofs.lemmas.List.{length-map, length-set}
+use Rattle.std.proofs.Common.{refl, [], List, Bool, get_or, set, ap, ◌∙◌}
+use Rattle.std.proofs.lemmas.List.{length-set}
 use Rattle.backward.specs.private.Collapses.{toggled_each}
-use Rattle.backward.specs.private.Links.{list_at}
-use Rattle.trackers.specs.TargetSets.{row_of_set}
-use Rattle.backward.proofs.LinkLemmas.{lists_put, rows_put, row_at, rows_stay_long}
-use Rattle.trackers.proofs.SetLemmas.{length-row_of_set}
+use Rattle.backward.proofs.LinkLemmas.{lists_put, low_at, rows_put, rows_stay_long}
 use Rattle.backward.proofs.record_lists.RecordLists.put.Goals as goal
 
 pub invariant_of-self-2 : goal.invariant_of-self-2
@@ -14,13 +10,8 @@ invariant_of-self-2 g c =
     let links = c.self.inside.links.items in
     let places = c.self.inside.places.items in
     let place = c.index.result.now in
-    let rec = c.args.rec in
-    let targets = c.args.targets.now in
-    let within : rec < length places = omega (arith, c.requires.rec, ap length c.self.view_is, length-map places (λ k. row_of_set m (list_at links k))) in
-    let row = row_at m rec place links places c.args.self.now c.self.view_is c.requires.rec c.index.ensures in
-    let long : length (get_or c.args.self.now rec []) ≡ m = sym (ap length row) ∙ length-row_of_set m (list_at links place) in
-    let low = subst (λ n. All (λ t. t < n) targets) long c.requires.targets in
-    lists_put m rec links places place c.put_each.new.links.items c.in_ok-first.first targets c.self.invariant within c.index.ensures low c.in_ok-first.ensures.put
+    let low = low_at m c.args.rec place links places c.args.self.now c.args.targets.now c.self.view_is c.requires.rec c.index.ensures c.requires.targets in
+    lists_put m c.args.rec links places place c.put_each.new.links.items c.in_ok-first.first c.args.targets.now c.self.invariant low.0 c.index.ensures low.1 c.in_ok-first.ensures.put
 
 pub returns-clause-ok : goal.returns-clause-ok
 returns-clause-ok g c =
@@ -28,14 +19,9 @@ returns-clause-ok g c =
     let links = c.self.inside.links.items in
     let places = c.self.inside.places.items in
     let place = c.index.result.now in
-    let rec = c.args.rec in
-    let targets = c.args.targets.now in
-    let within : rec < length places = omega (arith, c.requires.rec, ap length c.self.view_is, length-map places (λ k. row_of_set m (list_at links k))) in
-    let row = row_at m rec place links places c.args.self.now c.self.view_is c.requires.rec c.index.ensures in
-    let long : length (get_or c.args.self.now rec []) ≡ m = sym (ap length row) ∙ length-row_of_set m (list_at links place) in
-    let low = subst (λ n. All (λ t. t < n) targets) long c.requires.targets in
-    rows_put m rec links places place c.put_each.new.links.items c.in_ok-first.first targets c.self.invariant.back c.self.invariant.placed within c.index.ensures low c.in_ok-first.ensures.put
-    ∙ ap (λ (rows : List (List Bool)). set rows rec (toggled_each targets (get_or rows rec []))) c.self.view_is
+    let low = low_at m c.args.rec place links places c.args.self.now c.args.targets.now c.self.view_is c.requires.rec c.index.ensures c.requires.targets in
+    rows_put m c.args.rec links places place c.put_each.new.links.items c.in_ok-first.first c.args.targets.now c.self.invariant.back c.self.invariant.placed low.0 c.index.ensures low.1 c.in_ok-first.ensures.put
+    ∙ ap (λ (rows : List (List Bool)). set rows c.args.rec (toggled_each c.args.targets.now (get_or rows c.args.rec []))) c.self.view_is
 
 pub returns-in_err-first-clause-long : goal.returns-in_err-first-clause-long
 returns-in_err-first-clause-long g c = λ n.

@@ -1,13 +1,14 @@
 -- A collapse's flip is whether its letter clashes with the frame's letter at its qubit.
 use Rattle.std.proofs.Common.{◌≡◌, ◌<◌, ◌++◌, Some, set, sym, ap, ◌∙◌}
+use Rattle.std.specs.Prelude.{if◌then◌else◌}
 use Rattle.pauli_word.specs.declared.letter.Letter.TheVariants.{I}
 use Rattle.pauli_word.specs.Letters.{letters_clash}
-use Rattle.pauli_word.specs.Words.{Signed, letter_at}
+use Rattle.pauli_word.specs.Words.{letter_at}
 use Rattle.programs.specs.Listed.{measured, recorded}
 use Rattle.step_model.specs.Frames.{Frame}
 use Rattle.step_model.specs.Listing.{Collapse}
 use Rattle.frames.specs.private.Flips.{flip_of, recorded_flips}
-use Rattle.frames.proofs.FrameSteps.{frame, flip_of-letter, carried-reset, carried-measured}
+use Rattle.frames.proofs.FrameSteps.{frame, flip_of-letter, carried-letter}
 use Rattle.frames.proofs.frame.Frame.carry.Given.{Over}
 use Rattle.frames.proofs.frame.Frame.carry.Goals as goal
 use Rattle.frames.proofs.frame.Frame.carry.Goals.{After-clashes-flip}
@@ -28,33 +29,18 @@ flips g c =
     let k = c.in-Collapse in
     ap Some (clash g c) ∙ sym (flip_of-letter n c.args.self.now k.letter k.qubit k.rec k.inverted k.flip c.requires.size (inside g c) k.reset)
 
-pub returns-then-reset-clause-flip : goal.returns-then-reset-clause-flip
-returns-then-reset-clause-flip g c =
-    rw c.in-Collapse.is (flips g (goal.at.returns-then-reset-clause-flip g c).After-clashes-flip)
+pub returns-in-Collapse-clause-flip : goal.returns-in-Collapse-clause-flip
+returns-in-Collapse-clause-flip g c =
+    rw c.in-Collapse.is (flips g (goal.at.returns-in-Collapse-clause-flip g c).After-clashes-flip)
 
-pub returns-then-reset-clause-carried : goal.returns-then-reset-clause-carried
-returns-then-reset-clause-carried g c =
+pub returns-in-Collapse-clause-carried : goal.returns-in-Collapse-clause-carried
+returns-in-Collapse-clause-carried g c =
     let n = c.args.program.now.listing.qubits in
     let old = c.args.self.now in
     let k = c.in-Collapse in
-    let here = (goal.at.returns-then-reset-clause-carried g c).After-clashes-flip in
-    rw (k.is, c.if-reset.true)
-    (ap (λ (w : Signed). frame w.letters c.self-in-Collapse.inside.records.items) c.set_letter.ensures
-    ∙ (ap (λ (f : Frame). frame (set f.word k.qubit I) f.records) (c.self-in-Collapse.view_is ∙ c.in_ok-record-in-Collapse.ensures)
-    ∙ (ap (λ flip. frame (set old.word k.qubit I) (old.records ++ recorded_flips k.rec flip)) (clash g here)
-    ∙ sym (carried-reset n old k.letter k.qubit k.rec k.inverted k.flip c.requires.size (inside g here)))))
-
-pub returns-else-reset-clause-flip : goal.returns-else-reset-clause-flip
-returns-else-reset-clause-flip g c =
-    rw c.in-Collapse.is (flips g (goal.at.returns-else-reset-clause-flip g c).After-clashes-flip)
-
-pub returns-else-reset-clause-carried : goal.returns-else-reset-clause-carried
-returns-else-reset-clause-carried g c =
-    let n = c.args.program.now.listing.qubits in
-    let old = c.args.self.now in
-    let k = c.in-Collapse in
-    let here = (goal.at.returns-else-reset-clause-carried g c).After-clashes-flip in
-    rw (k.is, c.if-reset.false)
-    (c.in_ok-record-in-Collapse.ensures
-    ∙ (ap (λ flip. frame old.word (old.records ++ recorded_flips k.rec flip)) (clash g here)
-    ∙ sym (carried-measured n old k.letter k.qubit k.rec k.inverted k.flip c.requires.size (inside g here))))
+    let here = (goal.at.returns-in-Collapse-clause-carried g c).After-clashes-flip in
+    rw k.is
+    (c.clear.ensures
+    ∙ (ap (λ (f : Frame). frame (if k.reset then set f.word k.qubit I else f.word) f.records) c.in_ok-record-in-Collapse.ensures
+    ∙ (ap (λ flip. frame (if k.reset then set old.word k.qubit I else old.word) (old.records ++ recorded_flips k.rec flip)) (clash g here)
+    ∙ sym (carried-letter n old k.letter k.qubit k.rec k.inverted k.flip c.requires.size (inside g here) k.reset))))

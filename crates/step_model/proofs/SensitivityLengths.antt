@@ -1,5 +1,5 @@
 -- A sensitivity has a letter for each qubit.
-use Rattle.std.proofs.Common.{◌≡◌, ℕ, suc, Bool, true, false, List, [], ◌∷◌, length, refl, sym, ◌∙◌, arith, length-set}
+use Rattle.std.proofs.Common.{◌≡◌, ℕ, suc, Bool, true, false, List, [], ◌∷◌, length, sym, ◌∙◌, arith, length-set}
 use Rattle.std.specs.List.{AllPass}
 use Rattle.std.proofs.lemmas.List.{length-replicate}
 use Rattle.pauli_word.specs.declared.letter.Letter.{Letter}
@@ -14,24 +14,20 @@ use Rattle.step_model.specs.Sensitivities.{Sensitivity, sensitivity, sensitivity
 use Rattle.step_model.specs.WellFormed.{step_fits}
 use Rattle.step_model.proofs.StateIsGroup.{length-measured}
 
-length-cleared : (c : Measured) (w : List Letter) → length (cleared c w) ≡ length w
-length-cleared (Word v) w = refl
-length-cleared (Reset letter q) w = length-set w q I
+pub length-cleared : (n : ℕ) (c : Measured) (w : List Letter) → length w ≡ n → length (cleared c w) ≡ n
+length-cleared n (Word v) w size = size
+length-cleared n (Reset letter q) w size = length-set w q I ∙ size
+
+pub length-multiplied : (n : ℕ) (b : Bool) (v w : List Letter) → length v ≡ n → length w ≡ n → length (multiplied b v w) ≡ n
+length-multiplied n true v w size size' = length-letters_product v w (size ∙ sym size') ∙ size
+length-multiplied n false v w size size' = size'
 
 length-before : (program : Listing) (step : ListedStep) (s : Sensitivity) → step_fits program step ≡ true → length s.word ≡ program.qubits → length (sensitivity_before program.qubits step s).word ≡ program.qubits
 length-before program (One gate q) s fits h = length-image_at (inverse_of gate) q (signed s.word false) ∙ h
 length-before program (Two gate a b) s fits h = length-image_at_two (inverse_of gate) a b (signed s.word false) ∙ h
-length-before program (Collapse c r) s fits h = by_count (record_counts s.records r)
-  where
-    same : length (cleared c s.word) ≡ program.qubits
-    same = length-cleared c s.word ∙ h
-
-    long : length (measured_word program.qubits c) ≡ program.qubits
-    long = length-measured program c r fits
-
-    by_count : (counts : Bool) → length (multiplied counts (measured_word program.qubits c) (cleared c s.word)) ≡ program.qubits
-    by_count false = same
-    by_count true = length-letters_product (measured_word program.qubits c) (cleared c s.word) (long ∙ sym same) ∙ long
+length-before program (Collapse c r) s fits h =
+    length-multiplied program.qubits (record_counts s.records r) (measured_word program.qubits c) (cleared c s.word)
+    (length-measured program c r fits) (length-cleared program.qubits c s.word h)
 length-before program (Fault f) s fits h = h
 length-before program (Feedback w r) s fits h = h
 
