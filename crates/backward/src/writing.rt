@@ -1,6 +1,7 @@
 //! The text of a program's error model, written to a sink.
-ghost use Rattle.std.specs.Prelude.{◌≡◌, ◌≤◌, ◌⊎◌, ◌++◌, [], false, length, IfOk, IfErr, IfNone, IfSome, OnErr, OnOk};
-ghost use Rattle.error_models.specs.ModelText.{detectors_text, model_text, observables_text};
+ghost use Rattle.std.specs.Prelude.{◌≡◌, ◌≤◌, ◌-◌, ◌⊎◌, ◌++◌, [], false, length, slice_index_or, IfOk, IfErr, IfNone, IfSome, OnErr, OnOk};
+ghost use Rattle.std.specs.List.{flat_map, range_with_len};
+ghost use Rattle.error_models.specs.ModelText.{detector_text, detectors_text, model_text, observables_text};
 ghost use Rattle.streams.specs.Pushed.{Pushes};
 ghost use Rattle.step_model.specs.Ends.{Takes, TakesSome, write_failures};
 ghost use Rattle.step_model.specs.Faults.{memory_fault, write_fault};
@@ -17,9 +18,10 @@ use crate::found::Found;
 use crate::places::random_target;
 use crate::point::Point;
 use crate::stretch::{Parts, cut, write_parts};
+use crate::targets::target_count;
 use crate::text_store::TextStore;
 use arrayvec::ArrayVec;
-use error_models::{push_detector, push_observable};
+use error_models::{DetectorLines, MOST_LINES, push_observable};
 use programs::{Program, Walk};
 use std::alloc::{AllocError, Allocator};
 use step_model::{Fault, Place, Sink};
@@ -193,11 +195,41 @@ fn push_detectors<'a, A: Allocator + Copy, W: Sink>(
     ensures { Pushes W.taken W.failures sink.old sink.new out.old out.new
         (detectors_text (model_of program.now.listing)) }
 {
+    let count = program.detector_count();
+    let mut lines = DetectorLines::new();
+    let mut done = 0;
+    while done < count {
+        let next = done + MOST_LINES.min(count - done);
+        put_detectors(program, done, next, &mut lines);
+        lines.push_to(out, sink);
+        done = next;
+    }
+}
+
+// Puts the lines of detectors from one on, the last first.
+fn put_detectors<'a, A: Allocator + Copy>(
+    program: &Program<'a, A>,
+    from: usize,
+    to: usize,
+    lines: &mut DetectorLines,
+)
+    requires ordered { from ≤ to }
+    requires within { to ≤ length program.now.listing.detectors }
+    requires room { to - from ≤ lines.old.room }
+    requires none { lines.old.text ≡ [] }
+    ensures { lines.new.text
+        ≡ flat_map
+        (λ d. detector_text d (slice_index_or (model_of program.now.listing).coordinates d []))
+        (range_with_len from (to - from)) }
+{
+    let _few = target_count(program);
     program.well_formed();
     let mut coordinates = ArrayVec::new();
-    for detector in 0..program.detector_count() {
-        program.put_coordinates(detector, &mut coordinates);
-        push_detector(out, sink, detector, coordinates.as_slice());
+    let mut left = to;
+    while left > from {
+        left -= 1;
+        program.put_coordinates(left, &mut coordinates);
+        lines.put(left as u32, coordinates.as_slice());
     }
 }
 

@@ -1,3 +1,4 @@
+mod DetectorEndLemmas
 mod ErrorLineLemmas
 mod HeldTextLemmas
 mod NameLemmas

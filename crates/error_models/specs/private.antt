@@ -1,3 +1,4 @@
+pub mod DetectorEnds
 pub mod LineHeads
 pub mod ShortLines
 pub mod TargetNames

@@ -31,7 +31,8 @@ pub(crate) fn detector_before(buffer: &mut [u8], detector: u32, coordinates: &[i
     text_before(buffer, at, b"detector")
 }
 
-fn coordinates_before(buffer: &mut [u8], end: usize, coordinates: &[i64]) -> usize
+/// Writes coordinates in parentheses, where there are some, so that they end at `end`, and answers where they start.
+pub(crate) fn coordinates_before(buffer: &mut [u8], end: usize, coordinates: &[i64]) -> usize
     requires within { end ≤ length buffer.old }
     requires room { length coordinates.now * LATER_COORDINATE + 2 ≤ end }
     ensures within { result ≤ end }

@@ -1,0 +1,95 @@
+-- The end of the line of a detector and of the detector before it.
+use Rattle.std.proofs.Common.{◌≡◌, ℕ, suc, inl, inr, ◌+◌, ◌-◌, ◌<◌, ◌≤◌, ◌/◌, ◌%◌, ◌^◌, List, [], ◌∷◌, ◌++◌, length, get_or, drop, set, refl, sym, ap, ap₂, ◌∙◌, arith, append_assoc, length-append, length-drop}
+use Rattle.std.specs.Prelude.{decimal}
+use Rattle.std.proofs.Math.Seq.{get_or-append_seam, set-append_seam}
+use Rattle.std.proofs.lemmas.Bool.Decides.{leb_tells}
+use Rattle.std.proofs.lemmas.Fmt.{decimal_digit, decimal_step}
+use Rattle.std.proofs.lemmas.List.{drop-set-add, get_or-drop, same_from_push}
+use Rattle.error_models.specs.private.DetectorEnds.{HasEnd, end_text}
+
+-- the digits of a number, the last of them apart
+record Digits (n : ℕ) : Type 0 where
+  front : List ℕ
+  last : ℕ
+  whole : front ++ last ∷ [] ≡ decimal n
+
+digits_of : (n : ℕ) → n < 2 ^ 32 → Digits n
+digits_of n small = elim (leb_tells (suc n) 10) [
+  | inl one ↦ record { front = []; last = 48 + n; whole = sym (decimal_digit n (omega (arith, one.1))) }
+  | inr more ↦ record { front = decimal (n / 10); last = 48 + n % 10; whole = sym (decimal_step n (omega (arith, more.1)) (omega (arith, small))) }
+]
+
+-- a last digit that isn't nought becomes that of the number before
+pub record Falls (n : ℕ) (ds : List ℕ) (d : ℕ) : Type 0 where
+  pub some : 0 < n
+  pub digits : ds ++ (d - 1) ∷ [] ≡ decimal (n - 1)
+
+last_falls : (n : ℕ) (ds : List ℕ) (d : ℕ) → n < 2 ^ 32 → ds ++ d ∷ [] ≡ decimal n → 48 < d → Falls n ds d
+last_falls n ds d small is high = elim (leb_tells (suc n) 10) [
+  | inl one ↦
+      let parts = same_from_push ds [] d (48 + n) (is ∙ decimal_digit n (omega (arith, one.1))) in
+      let next : d - 1 ≡ 48 + (n - 1) = omega (arith, parts.1, high) in
+      record {
+        some = omega (arith, parts.1, high);
+        digits = ap₂ (λ l e. l ++ e ∷ []) parts.0 next ∙ sym (decimal_digit (n - 1) (omega (arith, one.1)));
+      }
+  | inr more ↦
+      let parts = same_from_push ds (decimal (n / 10)) d (48 + n % 10) (is ∙ decimal_step n (omega (arith, more.1)) (omega (arith, small))) in
+      let same : n / 10 ≡ (n - 1) / 10 = omega (arith, parts.1, high) in
+      let next : d - 1 ≡ 48 + (n - 1) % 10 = omega (arith, parts.1, high) in
+      record {
+        some = omega (arith, more.1);
+        digits = ap₂ (λ l e. l ++ e ∷ []) (parts.0 ∙ ap decimal same) next ∙ sym (decimal_step (n - 1) (omega (arith, more.1, parts.1, high)) (omega (arith, small)));
+      }
+]
+
+-- where the last digit stands
+record IsLast (n len : ℕ) (bytes front : List ℕ) (last : ℕ) : Type 0 where
+  whole : drop (16 - len) bytes ≡ (32 ∷ 68 ∷ front) ++ last ∷ 10 ∷ []
+  place : 14 ≡ 16 - len + length (32 ∷ 68 ∷ front)
+  read : get_or bytes 14 0 ≡ last
+
+is_last : (n len : ℕ) (bytes : List ℕ) (digits : Digits n) → length bytes ≡ 16 → HasEnd n len bytes → IsLast n len bytes digits.front digits.last
+is_last n len bytes digits long has =
+    let k = 16 - len in
+    let front = 32 ∷ 68 ∷ digits.front in
+    let whole : drop k bytes ≡ front ++ digits.last ∷ 10 ∷ [] =
+    has.text
+    ∙ ap (λ l. 32 ∷ 68 ∷ (l ++ 10 ∷ [])) (sym digits.whole)
+    ∙ ap (λ l. 32 ∷ 68 ∷ l) (append_assoc digits.front (digits.last ∷ []) (10 ∷ [])) in
+    let place : 14 ≡ k + length front = omega (arith, long, has.within, ap length whole, length-drop k bytes, length-append front (digits.last ∷ 10 ∷ [])) in
+    record {
+      whole = whole;
+      place = place;
+      read =
+          ap (λ i. get_or bytes i 0) place
+          ∙ sym (get_or-drop k bytes (length front) 0)
+          ∙ ap (λ l. get_or l (length front) 0) whole
+          ∙ get_or-append_seam front digits.last (10 ∷ []) 0;
+    }
+
+pub record CountsDown (n len : ℕ) (bytes : List ℕ) : Type 0 where
+  pub some : 0 < n
+  pub end : HasEnd (n - 1) len (set bytes 14 (get_or bytes 14 0 - 1))
+
+pub counts_down : (n len : ℕ) (bytes : List ℕ) → n < 2 ^ 32 → length bytes ≡ 16 → HasEnd n len bytes → 48 < get_or bytes 14 0 → CountsDown n len bytes
+counts_down n len bytes small long has high =
+    let digits = digits_of n small in
+    let k = 16 - len in
+    let front = 32 ∷ 68 ∷ digits.front in
+    let here = is_last n len bytes digits long has in
+    let falls = last_falls n digits.front digits.last small digits.whole (omega (arith, high, here.read)) in
+    let v = get_or bytes 14 0 - 1 in
+    record {
+      some = falls.some;
+      end = record {
+        within = has.within;
+        text =
+            ap (λ i. drop k (set bytes i v)) here.place
+            ∙ drop-set-add k bytes (length front) v
+            ∙ ap₂ (λ l x. set l (length front) (x - 1)) here.whole here.read
+            ∙ set-append_seam front digits.last (10 ∷ []) (digits.last - 1)
+            ∙ ap (λ l. 32 ∷ 68 ∷ l) (sym (append_assoc digits.front ((digits.last - 1) ∷ []) (10 ∷ [])))
+            ∙ ap (λ l. 32 ∷ 68 ∷ (l ++ 10 ∷ [])) falls.digits;
+      };
+    }
