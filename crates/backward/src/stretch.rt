@@ -25,18 +25,14 @@ const POINTS: usize = 60;
 /// A point takes little where there are no more qubits than these.
 const FEW_QUBITS: u32 = 256;
 
-// Counts a step, and answers whether it is the last of as many as `stride`; then it counts anew.
-fn is_last_of(stride: usize, left: &mut usize) -> bool
-    requires stride { 0 < stride }
-    requires left { 0 < left.old }
-    ensures { 0 < left.new }
-{
-    *left -= 1;
-    if *left > 0 {
-        return false;
+// Where to look next whether the text is full: once in `stride` steps.
+#[inline(always)]
+fn next_check(check: usize, place: usize, stride: usize) -> usize {
+    if place <= check {
+        place.saturating_sub(stride)
+    } else {
+        check
     }
-    *left = stride;
-    true
 }
 
 /// Goes back to `from`, over one step at least where there is one, until the text of the lines found is full, or some
@@ -71,16 +67,16 @@ fn find_back<'s, 'p, 'a, A: Allocator + Copy, T: Tracker>(
 {
     let to = at.walk.place();
     let stride = lines.stride();
-    let mut left = stride;
+    let mut check = to.saturating_sub(stride);
     let mut next = 0;
     while at.walk.place() > from {
         step_back(program, at, found, lines)?;
-        let steps = to.saturating_sub(at.walk.place());
-        if is_last_of(stride, &mut left)
-            && (lines.is_full(&mut next, steps, to - from) || found.is_random())
-        {
+        let place = at.walk.place();
+        let steps = to.saturating_sub(place);
+        if place <= check && (lines.is_full(&mut next, steps, to - from) || found.is_random()) {
             return Ok(());
         }
+        check = next_check(check, place, stride);
     }
     Ok(())
 }

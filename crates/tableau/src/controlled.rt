@@ -1,12 +1,12 @@
 //! Controlled gates, in place: such a gate has a letter on each of its qubits. Where X or Z at a qubit clashes with the
 //! letter there, its word is multiplied by the word of the letter on the other qubit. No word is copied.
-ghost use Rattle.std.specs.Prelude.{◌≡◌, ◌≢◌, ◌<◌, length, false, IfSome};
+ghost use Rattle.std.specs.Prelude.{◌≡◌, ◌≢◌, length, false, IfSome};
 ghost use Rattle.gate_table.specs.Images.{factor};
 ghost use Rattle.pauli_word.specs.declared.letter.Letter.{Letter};
 ghost use Rattle.pauli_word.specs.declared.letter.Letter.TheVariants.{Y};
 ghost use Rattle.pauli_word.specs.Words.{anticommute};
-ghost use Rattle.tableau.specs.private.ControlledSteps.{IsControlled, after_controlled, controlled_pair, CommuteWith};
-ghost use Rattle.tableau.specs.private.Encoding.{HasLength, IsTableau, word_of};
+ghost use Rattle.tableau.specs.private.ControlledSteps.{CanControl, IsControlled, after_controlled, controlled_pair, CommuteWith};
+ghost use Rattle.tableau.specs.private.Encoding.{HasLength, word_of};
 
 use crate::pairs::{Pair, multiply};
 use gate_table::Gate;
@@ -38,11 +38,7 @@ pub(crate) fn apply_controlled<A: Allocator + Copy>(
     a: usize,
     b: usize,
 )
-    requires own { own ≢ Y }
-    requires first_inside { a < length rows.old }
-    requires second_inside { b < length rows.old }
-    requires differ { a ≢ b }
-    requires tableau { IsTableau (length rows.old) rows.old }
+    requires { CanControl own a b rows.old }
     ensures { rows.new ≡ after_controlled own other a b rows.old }
 {
     match (own, other) {
@@ -60,11 +56,7 @@ fn multiply_at<A: Allocator + Copy>(
     a: usize,
     b: usize,
 )
-    requires own { own ≢ Y }
-    requires first_inside { a < length rows.old }
-    requires second_inside { b < length rows.old }
-    requires differ { a ≢ b }
-    requires tableau { IsTableau (length rows.old) rows.old }
+    requires { CanControl own a b rows.old }
     ensures { rows.new ≡ after_controlled own other a b rows.old }
 {
     if a < b {

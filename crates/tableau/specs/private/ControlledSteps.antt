@@ -3,14 +3,14 @@
 -- clashes with A; that of a letter on the second is that letter, with the factor A on the first where it clashes with B.
 -- So where X or Z at a qubit clashes with the gate's letter there, its word is multiplied by the word of the gate's
 -- letter on the other qubit. (Stim's gate reference: the stabilizer generators of CX, CY, CZ, XCX, XCY, XCZ.)
-use Rattle.std.specs.Prelude.{◌≡◌, ◌≢◌, ℕ, false, List, length, slice_set}
+use Rattle.std.specs.Prelude.{◌≡◌, ◌≢◌, ◌<◌, ℕ, false, List, length, slice_set}
 use Rattle.gate_table.specs.declared.gate.Gate.{Gate}
 use Rattle.gate_table.specs.Images.{factor, image2, inverse_of}
 use Rattle.pauli_word.specs.declared.letter.Letter.{Letter}
 use Rattle.pauli_word.specs.declared.letter.Letter.TheVariants.{I, X, Y, Z}
 use Rattle.pauli_word.specs.Letters.{letters_clash}
 use Rattle.pauli_word.specs.Words.{Signed, anticommute, product}
-use Rattle.tableau.specs.private.Encoding.{Pair, word_of, pair_at}
+use Rattle.tableau.specs.private.Encoding.{IsTableau, Pair, word_of, pair_at}
 
 -- a gate with A, which isn't Y, on the first qubit and B on the second
 pub record IsControlled (g : Gate) (A B : Letter) : Type 0 where
@@ -32,6 +32,14 @@ after_controlled A B a b rows =
     let r = pair_at n rows a in
     let s = pair_at n rows b in
     slice_set (slice_set rows a (controlled_pair n A B r s)) b (controlled_pair n B A s r)
+
+-- a controlled gate with A on its first qubit can be applied to the rows at qubits a and b
+pub record CanControl (A : Letter) (a b : ℕ) (rows : List Pair) : Type 0 where
+  pub own : A ≢ Y
+  pub first_inside : a < length rows
+  pub second_inside : b < length rows
+  pub differ : a ≢ b
+  pub tableau : IsTableau (length rows) rows
 
 -- both words of a pair commute with a word
 pub record CommuteWith (v : Signed) (r : Pair) : Type 0 where

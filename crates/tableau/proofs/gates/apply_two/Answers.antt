@@ -1,6 +1,6 @@
 use Rattle.std.proofs.Common.{◌<◌, List, length, drop, set, ap, ap₂, sym, subst, ◌∙◌, get_or-set_other}
 use Rattle.pauli_word.specs.declared.letter.Letter.TheVariants.{I, X, Z}
-use Rattle.tableau.specs.private.ControlledSteps.{after_controlled}
+use Rattle.tableau.specs.private.ControlledSteps.{CanControl, after_controlled}
 use Rattle.tableau.specs.private.Encoding.{HasLength, IsTableau, Pair}
 use Rattle.tableau.proofs.ControlledRows.{controlled_rows, written_back}
 use Rattle.tableau.proofs.NewSizes.{two_size}
@@ -113,26 +113,16 @@ returns-clause-first g c = first_long g (goal.at.returns-clause-first g c).After
 pub returns-clause-second : goal.returns-clause-second
 returns-clause-second g c = second_long g (goal.at.returns-clause-second g c).After-set_products-2
 
-pub apply_controlled-requires-clause-own : goal.apply_controlled-requires-clause-own
-apply_controlled-requires-clause-own g c = c.in-Some.ensures.own
-
-pub apply_controlled-requires-clause-first_inside : goal.apply_controlled-requires-clause-first_inside
-apply_controlled-requires-clause-first_inside g c = subst (λ (l : List Pair). c.args.a < length l) (sym c.as_mut_slice.ensures.value) c.requires.first_inside
-
-pub apply_controlled-requires-clause-second_inside : goal.apply_controlled-requires-clause-second_inside
-apply_controlled-requires-clause-second_inside g c = subst (λ (l : List Pair). c.args.b < length l) (sym c.as_mut_slice.ensures.value) c.requires.second_inside
-
-pub apply_controlled-requires-clause-differ : goal.apply_controlled-requires-clause-differ
-apply_controlled-requires-clause-differ g c = c.requires.differ
+pub apply_controlled-requires : goal.apply_controlled-requires
+apply_controlled-requires g c =
+    subst (CanControl c.in-Some.letters.0 c.args.a c.args.b) (sym c.as_mut_slice.ensures.value)
+    (record { own = c.in-Some.ensures.own; first_inside = c.requires.first_inside; second_inside = c.requires.second_inside; differ = c.requires.differ; tableau = c.requires.tableau })
 
 pub returns-in-Some-clause-first : goal.returns-in-Some-clause-first
 returns-in-Some-clause-first g c = c.requires.first
 
 pub returns-in-Some-clause-second : goal.returns-in-Some-clause-second
 returns-in-Some-clause-second g c = c.requires.second
-
-pub apply_controlled-requires-clause-tableau : goal.apply_controlled-requires-clause-tableau
-apply_controlled-requires-clause-tableau g c = subst (λ l. IsTableau (length l) l) (sym c.as_mut_slice.ensures.value) c.requires.tableau
 
 pub returns-in-Some-clause-rows : goal.returns-in-Some-clause-rows
 returns-in-Some-clause-rows g c =
