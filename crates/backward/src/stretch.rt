@@ -146,12 +146,11 @@ pub(crate) fn cut<'s, 'p, 'a, A: Allocator + Copy, T: Tracker>(
     let to = at.walk.place();
     find_back(program, from, at, found, lines)?;
     let place = at.walk.place();
-    let distance = distance_for(
-        found.is_random(),
-        place - from,
-        to - place,
-        program.qubits(),
-    );
+    let distance = if found.is_random() {
+        usize::MAX
+    } else {
+        distance_for(place - from, to - place, program.qubits())
+    };
     found.keeps = true;
     let points = leave_points(program, from, distance, at, found)?;
     let end = lines.take_text();
@@ -159,12 +158,8 @@ pub(crate) fn cut<'s, 'p, 'a, A: Allocator + Copy, T: Tracker>(
 }
 
 // How far apart points are left on a way of this many steps, where the text of the steps behind them is full. The text
-// between two points is held beside that one, so it is shorter where more points take little. Where some target is random,
-// no text is written, and no further point is needed.
-fn distance_for(is_random: bool, way: usize, full: usize, qubits: u32) -> usize {
-    if is_random {
-        return usize::MAX;
-    }
+// between two points is held beside that one, so it is shorter where more points take little.
+fn distance_for(way: usize, full: usize, qubits: u32) -> usize {
     let near = if qubits <= FEW_QUBITS { full / 4 } else { full };
     near.max(way / POINTS + 1)
 }
