@@ -1,5 +1,5 @@
 //! The text of a program's error model, written to a sink.
-ghost use Rattle.std.specs.Prelude.{◌≡◌, ◌≤◌, ◌-◌, ◌⊎◌, ◌++◌, [], false, length, slice_index_or, IfOk, IfErr, IfNone, IfSome, OnErr, OnOk};
+ghost use Rattle.std.specs.Prelude.{◌≡◌, ◌≤◌, ◌-◌, ◌⊎◌, ◌++◌, [], false, true, length, slice_index_or, IfOk, IfErr, IfNone, IfSome, OnErr, OnOk};
 ghost use Rattle.std.specs.List.{flat_map, range_with_len};
 ghost use Rattle.error_models.specs.ModelText.{detector_text, detectors_text, model_text, observables_text};
 ghost use Rattle.streams.specs.Pushed.{Pushes};
@@ -11,8 +11,7 @@ ghost use Rattle.backward.specs.Places.{IsLowestRandom, NoneIsRandom};
 ghost use Rattle.trackers.specs.Tracked.{fresh};
 ghost use Rattle.backward.specs.private.Answered.{Answers, PushesAnswer};
 ghost use Rattle.backward.specs.private.Passes.{IsPassed};
-ghost use Rattle.backward.specs.private.Points.{ArePoints, IsFor, IsReady, PushesSome, first_place};
-ghost use Rattle.backward.specs.private.Stretches.{text_between};
+ghost use Rattle.backward.specs.private.Points.{AreParts};
 
 use crate::found::Found;
 use crate::places::random_target;
@@ -128,18 +127,11 @@ fn push_from_end<'s, 'p, 'a, A: Allocator + Copy, T: Tracker, W: Sink>(
         result }
 {
     let parts = cut(program, 0, at, found, lines)?;
-    match random_target(program, &mut at.tracker, found)? {
-        Some(random) => Ok(Some(random)),
-        None => {
-            found.settled = true;
-            push_model(program, parts, at, found, lines, out, sink)?;
-            Ok(None)
-        }
-    }
+    push_parts(program, parts, at, found, lines, out, sink)
 }
 
-// Pushes the model's text, from what a first pass left: points, and the text of its end.
-fn push_model<'s, 'p, 'a, A: Allocator + Copy, T: Tracker, W: Sink>(
+// The same, from the start, with what a first pass left: points, and the text of the end.
+fn push_parts<'s, 'p, 'a, A: Allocator + Copy, T: Tracker, W: Sink>(
     program: &Program<'a, A>,
     parts: Parts<'p, 'a, A>,
     at: &mut Point<'p, 'a, A, T>,
@@ -147,30 +139,29 @@ fn push_model<'s, 'p, 'a, A: Allocator + Copy, T: Tracker, W: Sink>(
     lines: &mut TextStore<'_, 'a, A>,
     out: &mut Pieces,
     sink: &mut W,
-) -> Result<(), AllocError>
-    requires points { ArePoints program.now 0 (first_place 0 parts.points.items)
-        parts.points.items }
-    requires within { first_place 0 parts.points.items ≤ length program.now.listing.steps }
-    requires end { parts.end
-        ≡ text_between program.now.listing (first_place 0 parts.points.items)
-        (length program.now.listing.steps) }
-    requires tracker { IsFor program.now.listing (T.tracked at.old.tracker) }
-    requires ready { IsReady program.now.listing (first_place 0 parts.points.items) found.old }
+) -> Result<Option<(u32, Place)>, AllocError>
+    requires parts { AreParts program.now 0 (length program.now.listing.steps) found.old.known
+        parts }
+    requires passed { IsPassed program.now.listing 0 (T.tracked at.old.tracker) found.old }
+    requires first { found.old.settled ≡ false }
+    requires keeps { found.old.keeps ≡ true }
     requires store { lines.old.program.now ≡ program.now }
     requires empty { lines.old.text.text ≡ [] }
-    ensures text { OnOk result
-        (Pushes W.taken W.failures sink.old sink.new out.old out.new
-        (model_text (model_of program.now.listing))) }
-    ensures some { OnErr result
-        (PushesSome W.taken W.failures sink.old sink.new out.old out.new
-        (model_text (model_of program.now.listing))) }
+    ensures { PushesAnswer W.taken W.failures sink.old sink.new out.old out.new program.now.listing
+        result }
 {
     program.well_formed();
-    lines.hold_parts();
-    write_parts(program, 0, parts.points, at, found, lines, out, sink)?;
-    parts.end.push_to(out, sink);
-    push_declarations(program, out, sink);
-    Ok(())
+    match random_target(program, &mut at.tracker, found)? {
+        Some(random) => Ok(Some(random)),
+        None => {
+            found.settled = true;
+            lines.hold_parts();
+            write_parts(program, 0, parts.points, at, found, lines, out, sink)?;
+            parts.end.push_to(out, sink);
+            push_declarations(program, out, sink);
+            Ok(None)
+        }
+    }
 }
 
 // Pushes the lines of the detectors and the observables.
