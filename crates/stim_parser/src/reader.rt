@@ -1,4 +1,4 @@
-ghost use Rattle.std.specs.Prelude.{◌≡◌, ◌<◌, ◌≤◌, ◌+◌, ◌^◌, ◌⊎◌, length, IfOk, IfErr, Ok};
+ghost use Rattle.std.specs.Prelude.{◌≡◌, ◌<◌, ◌≤◌, ◌+◌, ◌^◌, ◌⊎◌, length, IfOk, IfErr, OnOk, Ok, None, Some};
 ghost use Rattle.step_model.specs.Faults.{memory_fault};
 ghost use Rattle.stim_lexer.specs.Lexing.{cut_in};
 ghost use Rattle.stim_lexer.specs.Fitting.{LinesFit};
@@ -16,7 +16,7 @@ use crate::last::{Last, LastParentheses};
 use crate::table::{Judge, Keyword};
 use flat_lists::Short;
 use std::alloc::{AllocError, Allocator};
-use step_model::{Cause, ChanceText, Fault, number_of};
+use step_model::{ChanceText, Fault, number_of};
 use stim_lexer::{Builder, Lexer, Line, Said};
 
 /// A number as a mark: what is beyond all marks has the greatest one.
@@ -54,29 +54,41 @@ fn mark_of<'a, O: Copy, T: Copy, F: Copy, J: Judge<O, T, F>, A: Allocator + Copy
     Ok(mark_from(number))
 }
 
-/// Reads the next line. Answers the cause where it is refused.
+/// Reads the next line, or answers its refusal. The cause is `Memory` only where memory runs out.
 fn read_next<'a, O: Copy, T: Copy, S: Short<T>, F: Copy, J: Judge<O, T, F>, A: Allocator + Copy>(
     builder: &mut Builder<'a, O, T, S, A>,
     texts: &mut Vec<ChanceText<'a>, A>,
     last: &mut Last<'a>,
     targets: &mut Vec<T, A>,
     line: Line<'a>,
-) -> Result<Option<Cause>, AllocError>
+) -> Result<(), Fault>
     requires { Keeps J.table texts.old.items (marked_in builder.old) }
-    ensures refused { IfOk result (λ refused. refused
-        ≡ cause_in
-        (reading_at (format_of J.table) builder.old.text line.entry.number
-        (cut_in line.entry))) }
-    ensures after { IfOk result (λ refused. builder.new.text
+    ensures accepted { OnOk result
+        (cause_in
+        (reading_at (format_of J.table) builder.old.text line.entry.number (cut_in line.entry))
+        ≡ None) }
+    ensures after { OnOk result
+        (builder.new.text
         ≡ after_line line.entry.number
         (reading_at (format_of J.table) builder.old.text line.entry.number (cut_in line.entry))
         builder.old.text) }
-    ensures kept { IfOk result (λ refused. Keeps J.table texts.new.items (marked_in builder.new)) }
+    ensures kept { OnOk result (Keeps J.table texts.new.items (marked_in builder.new)) }
+    ensures err { IfErr result (λ fault. (fault ≡ memory_fault)
+        ⊎ ((fault.line ≡ line.entry.number)
+        × (cause_in
+        (reading_at (format_of J.table) builder.old.text line.entry.number (cut_in line.entry))
+        ≡ Some fault.cause))) }
 {
     let number = line.number;
     let said = read_line::<O, T, F, J, A>(last, targets, builder.depth(), line)?;
     let mark = mark_of::<O, T, F, J, A>(texts, &last.parentheses, &said)?;
-    builder.take(number, said, mark, targets.as_slice())
+    match builder.take(number, said, mark, targets.as_slice())? {
+        Some(cause) => Err(Fault {
+            cause,
+            line: number,
+        }),
+        None => Ok(()),
+    }
 }
 
 /// The items of a text in the format of a judge with the texts of their probabilities, or the text's refusal. The cause is
@@ -96,23 +108,7 @@ fn read_items<'a, O: Copy, T: Copy, S: Short<T>, F: Copy, J: Judge<O, T, F>, A: 
     let mut last = Last::new();
     let mut targets = Vec::new(alloc);
     while let Some(line) = lexer.next_line()? {
-        let number = line.number;
-        match read_next::<O, T, S, F, J, A>(
-            &mut builder,
-            &mut texts,
-            &mut last,
-            &mut targets,
-            line,
-        ) {
-            Ok(None) => {}
-            Ok(Some(cause)) => {
-                return Err(Fault {
-                    cause,
-                    line: number,
-                });
-            }
-            Err(_) => return Err(Fault::MEMORY),
-        }
+        read_next::<O, T, S, F, J, A>(&mut builder, &mut texts, &mut last, &mut targets, line)?;
     }
     let items = builder.finish(J::causes().block)?;
     Ok(Numbered { items, texts })

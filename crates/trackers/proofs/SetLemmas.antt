@@ -290,6 +290,12 @@ only_one [] d h = cc
 only_one (x ∷ []) d h = refl
 only_one (x ∷ y ∷ more) d h = absurd (omega (arith, h))
 
+pub only_two : {A : Type 0} (xs : List A) (d : A) → length xs ≡ 2 → xs ≡ get_or xs 0 d ∷ get_or xs 1 d ∷ []
+only_two [] d h = cc
+only_two (x ∷ []) d h = absurd (omega (arith, h))
+only_two (x ∷ y ∷ []) d h = refl
+only_two (x ∷ y ∷ z ∷ more) d h = absurd (omega (arith, h))
+
 pub no_elements : (set : List ℕ) → (length set == 0) ≡ true → set ≡ []
 no_elements [] h = refl
 no_elements (x ∷ others) h = absurd (omega (arith, eqb-true (suc (length others)) 0 h))

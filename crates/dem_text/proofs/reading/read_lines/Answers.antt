@@ -1,14 +1,15 @@
-use Rattle.std.proofs.Common.{Option, ◌+◌, subst, ◌≡◌, List, Ok, ap, inr, length, sym, ◌∙◌, arith}
+use Rattle.std.proofs.Common.{ℕ, Option, ◌+◌, ◌-◌, ◌<◌, subst, ◌≡◌, List, Ok, ap, inr, length, sym, ◌∙◌, arith}
 use Rattle.std.proofs.lemmas.Bool.Decides.{nat_tests}
 use Rattle.stim_lexer.proofs.ScanLemmas.{lines_of-none}
 use Rattle.dem_text.specs.Texts.{Item}
 use Rattle.dem_text.proofs.TreeLemmas.{items_are_written}
 use Rattle.step_model.specs.declared.fault.Cause.{Cause}
 use Rattle.dem_text.specs.private.LinesRead.{PassesFirst}
+use Rattle.dem_text.specs.private.Standing.{line_at, line_number}
 use Rattle.dem_text.proofs.ChainLemmas.{items-led}
 use Rattle.dem_text.proofs.LeadingLemmas.{led_by}
 use Rattle.dem_text.proofs.LedLemmas.{items_led, leading-reads, passes-few, passes-led, written-led}
-use Rattle.dem_text.proofs.ReadingLemmas.{all-read, first-before, first-read, first-refused, left-open, none_open, same-text}
+use Rattle.dem_text.proofs.ReadingLemmas.{all-read, first-before, first-read, first-refused, first-stands, left-open, none_open, same-text, stands-numbered}
 use Rattle.dem_text.proofs.reading.read_lines.Goals as goal
 
 pub loop-text-init : goal.loop-text-init
@@ -69,3 +70,23 @@ returns-in-Some-clause-refusal g c =
     let led = led_by c.args.leading.text.now c.args.leading.lines in
     let passes = subst (λ (refused : Option Cause). PassesFirst c.loop-text.rest.now c.in_ok-passed.passed.after.now (c.loop-text.number + 1) refused c.loop-text.reader.lines c.loop-text.reader.opened.items c.pass.new.self.lines c.pass.new.self.opened.items) c.in-Some.is c.in_ok-passed.ensures in
     inr (first-refused _ _ _ _ c.in-Some.cause _ _ _ _ c.loop-text.invariant.reads (passes-led led _ _ _ _ _ _ _ _ passes))
+
+-- where the line that is read stands, and its number
+pub pass-requires-clause-line : goal.pass-requires-clause-line
+pass-requires-clause-line g c =
+    let text = c.args.leading.text.now in
+    let rest = c.loop-text.rest.now in
+    let some : 0 < length rest = grind (arith, nat_tests) in
+    first-stands text rest c.loop-text.number (c.loop-text.invariant.before some)
+    ∙ ap (λ (t : List ℕ). line_at t (length text - length rest)) (sym c.loop-text.invariant.text_is)
+
+pub pass-requires-clause-number : goal.pass-requires-clause-number
+pass-requires-clause-number g c =
+    let text = c.args.leading.text.now in
+    let rest = c.loop-text.rest.now in
+    let some : 0 < length rest = grind (arith, nat_tests) in
+    stands-numbered text rest c.loop-text.number (c.loop-text.invariant.before some)
+    ∙ ap (λ (t : List ℕ). line_number t (length text - length rest)) (sym c.loop-text.invariant.text_is)
+
+pub loop-text-smaller : goal.loop-text-smaller
+loop-text-smaller g c = omega (arith, c.in_ok-passed.ensures.first.less)

@@ -1,10 +1,15 @@
-use Rattle.std.proofs.Common.{◌≡◌, Option, None, Some, Ok, Err, ap, subst, sym, ◌∙◌, inr}
+use Rattle.std.proofs.Common.{◌≡◌, ◌⊎◌, ℕ, List, Option, None, Some, Ok, Err, ap, subst, sym, ◌∙◌, inl, inr}
 use Rattle.std.proofs.lemmas.Result.{err_from_is_err_and}
 use Rattle.stim_lexer.specs.declared.line.Line.{Line}
-use Rattle.stim_lexer.specs.Lexing.{Numbered, answered, cut_in, next_found}
+use Rattle.step_model.specs.declared.fault.Fault.{Fault}
+use Rattle.step_model.specs.Faults.{memory_fault}
+use Rattle.stim_lexer.specs.Lexing.{Numbered, Unread, answered, cut_in, next_found}
+use Rattle.stim_lexer.specs.Judged.{IsRefusedBy}
+use Rattle.stim_lexer.specs.Texts.{Format, refused}
+use Rattle.stim_lexer.specs.Unfinished.{Unfinished, cause_in, reading_at}
 use Rattle.stim_lexer.specs.Instructions.{Instruction}
 use Rattle.stim_lexer.specs.Marked.{Marked}
-use Rattle.stim_lexer.proofs.TextLemmas.{fewer, reads_on, refused_by_line, refused_by_byte, finished_reads, finished_refused}
+use Rattle.stim_lexer.proofs.TextLemmas.{IsReading, fewer, reads_on, refused_by_line, refused_by_byte, finished_reads, finished_refused}
 use Rattle.stim_parser.specs.Judging.{format_of}
 use Rattle.stim_parser.specs.Probabilities.{Keeps}
 use Rattle.stim_parser.proofs.reader.read_items.Goals as goal
@@ -30,18 +35,25 @@ loop-targets-preserved g c =
     let next : Ok (Some n) ≡ next_found left =
     sym (ap (λ (o : Option Line). answered (Ok o)) c.in-Some.is) ∙ c.in_ok-line.ensures.line in (
       reads_on (format_of g.J.Judge.table) c.args.text.now c.loop-targets.builder.text c.read_next.new.builder.text left c.next_line.new.self n c.loop-targets.invariant.0 next c.next_line.ensures.rest
-          (sym c.in-Ok-None.field-0-is ∙ c.in-Ok-None.ensures.refused) c.in-Ok-None.ensures.after,
-      c.in-Ok-None.ensures.kept,
+          (sym c.in_ok-read_next.ensures.accepted) c.in_ok-read_next.ensures.after,
+      c.in_ok-read_next.ensures.kept,
     )
 
-pub returns-in-Ok-Some-clause-err : goal.returns-in-Ok-Some-clause-err
-returns-in-Ok-Some-clause-err g c =
+-- a line that is refused, or memory that runs out at it
+refused_at : {I : Type 0} (format : Format I) (text : List ℕ) (u : Unfinished I) (left : Unread) (n : Numbered) (fault : Fault) → IsReading format text u left → Ok (Some n) ≡ next_found left
+    → (fault ≡ memory_fault) ⊎ ((fault.line ≡ n.number) × (cause_in (reading_at format u n.number n.cut) ≡ Some fault.cause)) → (fault ≡ memory_fault) ⊎ IsRefusedBy format text fault
+refused_at format text u left n fault h e (inl memory) = inl memory
+refused_at format text u left n fault h e (inr r) =
+    inr (subst (λ (line : ℕ). IsRefusedBy format text (refused fault.cause line)) (sym r.0) (refused_by_line format text u left n fault.cause h e (sym r.1)))
+
+pub returns-in_err-read_next-clause-err : goal.returns-in_err-read_next-clause-err
+returns-in_err-read_next-clause-err g c =
     let left = c.loop-targets.lexer in
     let n : Numbered = record { number = c.in-Some.line.number; cut = cut_in c.in-Some.line } in
     let next : Ok (Some n) ≡ next_found left =
     sym (ap (λ (o : Option Line). answered (Ok o)) c.in-Some.is) ∙ c.in_ok-line.ensures.line in
-    inr (refused_by_line (format_of g.J.Judge.table) c.args.text.now c.loop-targets.builder.text left n c.in-Ok-Some.cause c.loop-targets.invariant.0 next
-    (sym c.in-Ok-Some.field-0-is ∙ c.in-Ok-Some.ensures.refused))
+    let p = err_from_is_err_and c.from_residual-in_err-read_next.result c.from_residual-in_err-read_next.ensures.1 in
+    rw (p.1, p.2) (refused_at (format_of g.J.Judge.table) c.args.text.now c.loop-targets.builder.text left n _ c.loop-targets.invariant.0 next c.in_err-read_next.ensures.err)
 
 pub returns-clause-ok : goal.returns-clause-ok
 returns-clause-ok g c =

@@ -1,14 +1,15 @@
-use Rattle.std.proofs.Common.{◌≡◌, ◌∷◌, [], length, get_or, ap, ap₂, sym, ◌∙◌, arith}
+use Rattle.std.proofs.Common.{◌≡◌, ◌∷◌, [], List, length, get_or, ap, ap₂, sym, ◌∙◌, arith}
 use Rattle.std.specs.Prelude.{map}
 use Rattle.std.specs.List.{range_with_len}
 use Rattle.std.proofs.lemmas.Result.{on_ok_weaker}
 use Rattle.pauli_word.specs.Letters.{letters_clash}
 use Rattle.pauli_word.specs.Words.{anticommute}
+use Rattle.step_model.specs.declared.step.Term.{Term}
 use Rattle.step_model.specs.Listing.{word_of_terms}
 use Rattle.trackers.specs.Tracked.{anticommuting}
 use Rattle.trackers.specs.private.Transposed.{word_at}
 use Rattle.trackers.proofs.LoneTerms.{lone_clash}
-use Rattle.trackers.proofs.SetLemmas.{only_one}
+use Rattle.trackers.proofs.SetLemmas.{only_one, only_two}
 use Rattle.trackers.proofs.TransposedLemmas.{ones_are_hit}
 use Rattle.trackers.proofs.LengthLemmas.{lent, lent_long}
 use Rattle.trackers.proofs.WordLemmas.{no_term, term_below}
@@ -63,3 +64,32 @@ returns-clause-hit g c =
     on_ok_weaker c.list-2.result
     (λ h. h ∙ (ones_are_hit m columns terms (g.S.TargetSet.bits c.clashing.new.set) set ∙ ap (anticommuting terms) c.self.view_is))
     c.list-2.ensures
+
+-- the sets stay as long
+pub invariant_of-self : goal.invariant_of-self
+invariant_of-self g c =
+    record {
+      columns_long = c.self.invariant.columns_long;
+      first_long = c.self.invariant.first_long;
+      second_long = c.self.invariant.second_long;
+      set_long = c.clashing.ensures.len ∙ c.self.invariant.set_long;
+      spare_long = c.clashing.ensures.spare ∙ c.self.invariant.spare_long;
+      few = c.self.invariant.few;
+    }
+
+pub invariant_of-self-2 : goal.invariant_of-self-2
+invariant_of-self-2 g c =
+    record {
+      columns_long = c.self.invariant.columns_long;
+      first_long = c.self.invariant.first_long;
+      second_long = c.self.invariant.second_long;
+      set_long = c.clashing.ensures.len ∙ c.self.invariant.set_long;
+      spare_long = c.clashing.ensures.spare ∙ c.self.invariant.spare_long;
+      few = c.self.invariant.few;
+    }
+
+pub returns-then-branch-clause-hit : goal.returns-then-branch-clause-hit
+returns-then-branch-clause-hit g c =
+    let terms = c.args.terms.now in
+    let both : terms ≡ get_or terms 0 no_term ∷ get_or terms 1 no_term ∷ [] = only_two terms no_term (omega (arith, c.in-len2.len_at_least, c.in-len2.len_below)) in
+    c.in_ok-list_both.ensures c.if-branch.true ∙ ap (λ (ts : List Term). anticommuting ts c.args.self.now) (sym both)
