@@ -18,6 +18,7 @@ use std::alloc::{AllocError, Allocator};
 use std::marker::Model;
 
 /// A Pauli frame on its way through a program: its word, and for each record so far whether the frame flips it.
+#[derive(Drop)]
 pub(crate) struct Frame<A: Allocator + Copy> {
     word: Word<A>,
     records: Vec<bool, A>,
@@ -29,15 +30,6 @@ impl<A: Allocator + Copy> Model for Frame<A> {
     ghost Value = { Seen };
 
     ghost view = { λ f. record { word = f.word.letters; records = f.records.items } };
-}
-
-// Written out, so that it is a call in the proof of each function that owns one.
-impl<A: Allocator + Copy> Drop for Frame<A> {
-    fn drop(self) {
-        let Frame { word, records } = self;
-        drop(word);
-        drop(records);
-    }
 }
 
 impl<A: Allocator + Copy> Frame<A> {

@@ -24,6 +24,7 @@ use std::marker::Model;
 use step_model::Term;
 
 /// The frames of 64 runs: their letters at each qubit, and a word of flips for each record so far.
+#[derive(Drop)]
 pub(crate) struct Frames<A: Allocator + Copy> {
     letters: Vec<Letters, A>,
     flips: Vec<u64, A>,
@@ -36,15 +37,6 @@ impl<A: Allocator + Copy> Model for Frames<A> {
     ghost Value = { LaneFrames };
 
     ghost view = { λ f. record { letters = f.letters.items; flips = f.flips.items; room = vec_capacity f.flips } };
-}
-
-// Written out, so that it is a call in the proof of each function that owns one.
-impl<A: Allocator + Copy> Drop for Frames<A> {
-    fn drop(self) {
-        let Frames { letters, flips } = self;
-        drop(letters);
-        drop(flips);
-    }
 }
 
 impl<A: Allocator + Copy> Frames<A> {
