@@ -1,5 +1,5 @@
 /// What a line of an error model says, where it opens no block.
-#[derive(Clone, Copy, Debug, PartialEq, Eq)]
+#[derive(Clone, Copy)]
 pub enum Operation {
     /// States an error, with what it flips.
     PauliError,

@@ -5,7 +5,7 @@ use std::alloc::{AllocError, Allocator};
 use stim_parser::{PieceValue, number_of, read_pieces};
 
 /// A target as it is written. All numbers from 10^18 on are taken as one, which is beyond every limit.
-#[derive(Clone, Copy, Debug, PartialEq, Eq)]
+#[derive(Clone, Copy)]
 pub enum Target {
     /// A number alone: by how much detectors shift, or how often a block is repeated.
     Plain(u64),

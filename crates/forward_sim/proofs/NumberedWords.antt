@@ -15,10 +15,13 @@ kept_same old new (number ∷ numbers) has inside =
     let rest : All (λ n. n < length old) numbers = λ k d below. inside (suc k) d (omega (arith, below)) in
     ap₂ (λ e es. e ∷ es) (ap (λ list. entry_of (terms_listed list)) (has number here).1) (kept_same old new numbers has rest)
 
+pub inside_still : (old new : List (List ℕ)) (numbers : List ℕ) → HasAll old new → All (λ n. n < length old) numbers → All (λ n. n < length new) numbers
+inside_still old new numbers has inside k d below = (has (get_or numbers k d) (inside k d below)).0
+
 pub inside_more : (old new : List (List ℕ)) (numbers : List ℕ) (number : ℕ) → HasAll old new → All (λ n. n < length old) numbers → number < length new → All (λ n. n < length new) (numbers ++ number ∷ [])
 inside_more old new numbers number has inside within =
     All-append (λ n. n < length new) numbers (number ∷ [])
-    (λ k d below. (has (get_or numbers k d) (inside k d below)).0)
+    (inside_still old new numbers has inside)
     (All-cons (λ n. n < length new) number [] within (All-nil (λ n. n < length new)))
 
 -- one number more

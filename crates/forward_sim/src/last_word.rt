@@ -11,6 +11,7 @@ use tableau::laws::rows_have_all_letters;
 
 /// The word that the last collapse replaced, as a list of numbers, with room for any word. No more than 65,535 qubits fit
 /// into such a list.
+#[derive(Drop)]
 pub(crate) struct LastWord<A: Allocator + Copy> {
     qubits: usize,
     // only the first `len` of these are the list
@@ -30,20 +31,6 @@ impl<A: Allocator + Copy> Model for LastWord<A> {
     ghost view = { λ w. record { room = w.qubits; terms = terms_listed (take w.len w.numbers.items) } };
 
     ghost invariant = { λ w. (length w.numbers.items ≡ 2 * w.qubits + 1) × (w.qubits ≤ MAX) × (w.len ≤ length w.numbers.items) × (length w.zs.items ≡ w.qubits) };
-}
-
-// Written out, so that it is a call in the proof of each function that owns one.
-impl<A: Allocator + Copy> Drop for LastWord<A> {
-    fn drop(self) {
-        let LastWord {
-            qubits: _,
-            numbers,
-            len: _,
-            zs,
-        } = self;
-        drop(numbers);
-        drop(zs);
-    }
 }
 
 impl<A: Allocator + Copy> LastWord<A> {

@@ -14,6 +14,7 @@ use step_model::Fault;
 
 /// Up to 64 shots of a program, side by side: a word for each fault, whose bit j says whether it happens in shot j, and
 /// one for each collapse, with its coins. Each call of `draw` draws them anew, in the memory that `new` took.
+#[derive(Drop)]
 pub struct Shots<A: Allocator + Copy> {
     runs: Vec<BoundRun, A>,
     passed: Span,
@@ -31,21 +32,6 @@ impl<A: Allocator + Copy> Model for Shots<A> {
     ghost view = { λ s. record { bounds = bounds_in s.runs.items; passed = s.passed; faults = s.faults.items; coins = s.coins.items } };
 
     ghost invariant = { λ s. HasRoom s.passed (bounds_in s.runs.items) s.faults.items s.coins.items };
-}
-
-// Written out, so that it is a call in the proof of each function that owns one.
-impl<A: Allocator + Copy> Drop for Shots<A> {
-    fn drop(self) {
-        let Shots {
-            runs,
-            passed: _,
-            faults,
-            coins,
-        } = self;
-        drop(runs);
-        drop(faults);
-        drop(coins);
-    }
 }
 
 impl<A: Allocator + Copy> Shots<A> {

@@ -50,11 +50,22 @@ fn pair_at<A: Allocator + Copy>(
     ensures first { IfOk result (λ pair. pair.0.items ≡ zero_coins program.now.listing) }
     ensures second { IfOk result (λ pair. pair.1.items ≡ pair_coins program.now.listing place) }
 {
+    let flips = place_flips(alloc, program, place)?;
     let mut zeros = Vec::new(alloc);
     zeros.resize(program.collapse_count() as usize, false)?;
-    let word = word_at(alloc, program, place)?;
-    let flips = flips_at(alloc, program, place, &word)?;
     Ok((zeros, flips))
+}
+
+// The flips of the frame that begins at a place.
+fn place_flips<A: Allocator + Copy>(
+    alloc: A,
+    program: &Program<'_, A>,
+    place: Place,
+) -> Result<Vec<bool, A>, AllocError>
+    ensures { IfOk result (λ flips. flips.items ≡ pair_coins program.now.listing place) }
+{
+    let word = word_at(alloc, program, place)?;
+    flips_at(alloc, program, place, &word)
 }
 
 // The word as which the frame of a place begins; the identity where there is no such place.

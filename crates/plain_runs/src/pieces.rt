@@ -17,7 +17,7 @@ use std::alloc::{AllocError, Allocator};
 use step_model::{ChanceText, Term};
 
 /// A piece of a circuit: a step, the start of a block with its number of turns, or its end.
-#[derive(Clone, Copy, Debug, PartialEq, Eq)]
+#[derive(Clone, Copy)]
 pub enum Piece {
     Do(TextStep),
     Open(u64),

@@ -10,7 +10,7 @@ ghost use Rattle.stim_lexer.specs.private.Special.{is_special};
 use crate::scan::{any_bad_byte, before_byte, cut_brackets, cut_name, from_brace, is_blank_text};
 
 /// The braces of a line, outside tag and comment.
-#[derive(Clone, Copy, Debug, PartialEq, Eq)]
+#[derive(Clone, Copy)]
 pub enum Braces {
     /// There are none.
     NoBrace,
@@ -23,7 +23,7 @@ pub enum Braces {
 }
 
 /// A line cut into its parts, which are slices of the text. No part is judged.
-#[derive(Clone, Copy, Debug)]
+#[derive(Clone, Copy)]
 pub struct Line<'a> {
     /// The number of the line in its text, from 1.
     pub number: u64,

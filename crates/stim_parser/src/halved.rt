@@ -7,7 +7,7 @@ const HALF: u64 = 0x1_0000_0000;
 
 /// A number of 64 bits in two halves. It needs only the alignment of a half, so types that have one need less padding. The
 /// low half stands first, so that processors that keep low bytes first read and write both at once.
-#[derive(Clone, Copy, Debug, PartialEq, Eq)]
+#[derive(Clone, Copy)]
 pub struct Number {
     low: u32,
     high: u32,

@@ -2,7 +2,7 @@ use gate_table::Gate;
 use pauli_word::Letter;
 
 /// What an instruction does.
-#[derive(Clone, Copy, Debug, PartialEq, Eq)]
+#[derive(Clone, Copy, Debug)]
 pub enum Operation {
     /// Applies a gate.
     Applies(Gate),

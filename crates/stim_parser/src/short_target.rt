@@ -8,7 +8,7 @@ use flat_lists::Short;
 use pauli_word::Letter;
 
 /// A target whose number is less than 2^16. It takes four bytes, a third of what a `Target` takes.
-#[derive(Clone, Copy, Debug, PartialEq, Eq)]
+#[derive(Clone, Copy)]
 pub enum ShortTarget {
     Plain(u16),
     Inverted(u16),

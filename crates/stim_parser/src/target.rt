@@ -9,7 +9,7 @@ use pauli_word::Letter;
 use std::alloc::{AllocError, Allocator};
 
 /// A target as it is written. All numbers from 10^18 on are taken as one, which is beyond every limit.
-#[derive(Clone, Copy, Debug, PartialEq, Eq)]
+#[derive(Clone, Copy)]
 pub enum Target {
     /// A number alone: a qubit, or how often a block is repeated.
     Plain(Number),

@@ -1,5 +1,5 @@
 use Rattle.std.proofs.Common.{◌≡◌, ◌<◌, ◌-◌, ◌+◌, ◌∷◌, length, drop, get_or, ap, sym, ◌∙◌, arith}
-use Rattle.std.proofs.lemmas.List.{drop_more}
+use Rattle.std.proofs.lemmas.List.{drop_all, drop_more}
 use Rattle.std.proofs.lemmas.List.Elements.{All-get_or}
 use Rattle.pauli_word.specs.declared.letter.Letter.TheVariants.{I}
 use Rattle.pauli_word.specs.Words.{Signed, letters_product, lone_letter}
@@ -41,3 +41,18 @@ loop-left-preserved g c =
 pub returns-clause-size : goal.returns-clause-size
 returns-clause-size g c =
     ap length c.loop-left.invariant.product ∙ length-word_of_terms c.args.qubits (drop c.loop-left.left c.args.terms.now)
+
+pub loop-left-init : goal.loop-left-init
+loop-left-init g c =
+    let terms = c.args.terms.now in
+    record {
+      within = omega arith;
+      product =
+          ap (λ (w : Signed). w.letters) c.in_ok-word.ensures
+          ∙ ap (word_of_terms c.args.qubits) (sym (drop_all (length terms) terms (omega arith)));
+    }
+
+pub returns-clause-product : goal.returns-clause-product
+returns-clause-product g c =
+    let none : c.loop-left.left ≡ 0 = omega arith in
+    c.loop-left.invariant.product ∙ ap (λ k. word_of_terms c.args.qubits (drop k c.args.terms.now)) none

@@ -1,8 +1,12 @@
-use Rattle.std.proofs.Common.{length, get_or, sym, ap, subst, ◌∙◌}
-use Rattle.pauli_word.specs.Words.{with_sign_changed}
+use Rattle.std.proofs.Common.{ℕ, length, get_or, sym, ap, subst, ◌∙◌}
+use Rattle.gate_table.specs.WordImages.{image_at}
+use Rattle.pauli_word.specs.declared.letter.Letter.{Letter}
+use Rattle.pauli_word.specs.declared.letter.Letter.TheVariants.{Z}
+use Rattle.pauli_word.specs.Words.{Signed, letter_at, with_sign_changed}
 use Rattle.pauli_word.proofs.LowestLetters.{lowest-clash}
+use Rattle.tableau.specs.private.CliffordMaps.{twisted}
 use Rattle.tableau.specs.private.Encoding.{HasLength}
-use Rattle.tableau.specs.private.EncodingSteps.{IsPivot, collapsed_at, outcome_at}
+use Rattle.tableau.specs.private.EncodingSteps.{IsPivot, collapsed_at, lone, mapped, outcome_at, turning_gate}
 use Rattle.tableau.proofs.PairWords.{pair_long}
 use Rattle.tableau.proofs.RowClashes.{clashes_told}
 use Rattle.tableau.proofs.TwistRows.{turned_size}
@@ -66,3 +70,15 @@ returns-in-None-clause-row g c = sym (sym c.lowest_x_or_y.ensures ∙ c.in-None.
 pub returns-in-None-clause-outcome : goal.returns-in-None-clause-outcome
 returns-in-None-clause-outcome g c =
     c.sign.ensures ∙ sym (ap (λ o. outcome_at o c.args.code.now.0 c.args.coin) (sym c.lowest_x_or_y.ensures ∙ c.in-None.is))
+
+pub returns-in-Some-clause-rows : goal.returns-in-Some-clause-rows
+returns-in-Some-clause-rows g c =
+    let rows = c.args.rows.now.items in
+    let old = c.args.code.now.0 in
+    let new = c.set_pivot.new.code.0 in
+    let k = c.in-Some.qubit in
+    c.turn_rows.ensures
+    ∙ ap (λ (a : Letter). mapped (λ v. image_at (turning_gate a) k (twisted (lone (length new.letters) k Z) new v)) rows) c.letter-letter.ensures
+    ∙ ap (λ (n : ℕ). mapped (λ v. image_at (turning_gate (letter_at old.letters k)) k (twisted (lone n k Z) new v)) rows) (c.set_pivot.ensures.pivot.rest_size ∙ c.requires.code.x)
+    ∙ ap (λ (y : Signed). mapped (λ v. image_at (turning_gate (letter_at old.letters k)) k (twisted (lone (length rows) k Z) y v)) rows) c.set_pivot.ensures.rest
+    ∙ sym (ap (λ o. collapsed_at (length rows) o (with_sign_changed c.args.coin old) rows) (sym c.lowest_x_or_y.ensures ∙ c.in-Some.is))

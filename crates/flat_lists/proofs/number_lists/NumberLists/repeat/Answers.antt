@@ -1,7 +1,8 @@
-use Rattle.std.proofs.Common.{◌≡◌, ◌+◌, ◌-◌, ◌*◌, [], ◌∷◌, ◌++◌, ◌^◌, ◌<◌, ◌≢◌, zero, suc, min, Fits, w32, ℕ, List, drop, length, refl, sym, ap, ◌∙◌, add-zero, append-nil, arith, rules, length-drop}
+use Rattle.std.proofs.Common.{◌≡◌, ◌+◌, ◌-◌, ◌*◌, [], ◌∷◌, ◌++◌, ◌^◌, ◌<◌, ◌≢◌, zero, suc, min, Fits, w32, ℕ, List, drop, length, refl, sym, ap, subst, ◌∙◌, add-zero, append-nil, arith, rules, length-drop}
 use Rattle.std.proofs.lemmas.List.{nil_from_length}
 use Rattle.flat_lists.specs.declared.number_lists.Repeat.{Repeat}
 use Rattle.flat_lists.specs.Turns.{later, moved_by}
+use Rattle.flat_lists.specs.private.Repeats.{HasRepeats}
 use Rattle.flat_lists.proofs.RepeatLemmas.{HasTurns, has_turns}
 use Rattle.flat_lists.proofs.TurnLemmas.{length-later}
 use Rattle.flat_lists.proofs.number_lists.NumberLists.repeat.Given.{Over}
@@ -43,6 +44,16 @@ turned g c =
     (omega (arith, positive c.args.turns (c.self.inside.len - c.args.first) (omega (arith, some, more, product))))
     (omega (arith, end, more, product, few.fits))
     few.fits
+
+pub invariant_of-self : goal.invariant_of-self
+invariant_of-self g c =
+    subst (λ (rs : List Repeat). HasRepeats rs c.self.inside.kept c.self.inside.len) (sym c.reserve.ensures.items) c.self.invariant
+
+pub invariant_of-self-in_err-push : goal.invariant_of-self-in_err-push
+invariant_of-self-in_err-push g c =
+    let inside = c.self.inside in
+    subst (λ (rs : List Repeat). HasRepeats rs c.push.new.self inside.len) (sym c.reserve.ensures.items)
+    (subst (λ kept. HasRepeats inside.repeats.items kept inside.len) (sym c.in_err-push.ensures.err) c.self.invariant)
 
 pub invariant_of-self-2 : goal.invariant_of-self-2
 invariant_of-self-2 g c = (turned g (goal.at.invariant_of-self-2 g c).After-push_reserved).has

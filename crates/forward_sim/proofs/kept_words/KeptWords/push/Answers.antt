@@ -4,7 +4,7 @@ use Rattle.std.specs.List.{All}
 use Rattle.std.specs.Prelude.{map}
 use Rattle.forward_sim.specs.References.{entry_of}
 use Rattle.forward_sim.specs.private.Kept.{KeptSoFar, entry_with, terms_listed}
-use Rattle.forward_sim.proofs.NumberedWords.{inside_more, kept_more}
+use Rattle.forward_sim.proofs.NumberedWords.{inside_more, inside_still, kept_more}
 use Rattle.forward_sim.proofs.kept_words.KeptWords.push.Goals as goal
 
 pub invariant_of-self-2 : goal.invariant_of-self-2
@@ -31,3 +31,13 @@ overflow_sub-self g c = c.if-taken-self.false
 
 pub returns-clause-whole : goal.returns-clause-whole
 returns-clause-whole g c whole = sym (ap (λ (k : KeptSoFar). k.whole) c.self.view_is) ∙ whole
+
+pub invariant_of-self : goal.invariant_of-self
+invariant_of-self g c =
+    inside_still c.self.inside.words c.number.new.self c.self.inside.numbers.items c.number.ensures.stay c.self.invariant
+
+pub invariant_of-self-in_err-push : goal.invariant_of-self-in_err-push
+invariant_of-self-in_err-push g c =
+    let new = c.number.new.self in
+    subst (All (λ n. n < length new)) (sym c.in_err-push.ensures.items)
+    (inside_still c.self.inside.words new c.self.inside.numbers.items c.number.ensures.stay c.self.invariant)
