@@ -147,9 +147,10 @@ row_at m rec place links places rows is low read =
 pub low_at : (m rec place : ℕ) (links : List Link) (places : List ℕ) (rows : List (List Bool)) (targets : List ℕ) → rows_at m links places ≡ rows → rec < length rows → place ≡ get_or places rec place
     → All (λ t. t < length (get_or rows rec [])) targets → (rec < length places) × All (λ t. t < m) targets
 low_at m rec place links places rows targets is low read below =
-    let row = row_at m rec place links places rows is low read in
-    (omega (arith, low, rows_counted m links places rows is),
-     subst (λ n. All (λ t. t < n) targets) (sym (ap length row) ∙ length-row_of_set m (list_at links place)) below)
+    let row = row_at m rec place links places rows is low read in (
+      omega (arith, low, rows_counted m links places rows is),
+      subst (λ n. All (λ t. t < n) targets) (sym (ap length row) ∙ length-row_of_set m (list_at links place)) below,
+    )
 
 pub below_at : (m rec place : ℕ) (links : List Link) (places : List ℕ) (rows : List (List Bool)) → AreLists m links places → rows_at m links places ≡ rows → rec < length rows → place ≡ get_or places rec place
     → All (λ t. t < m) (list_at links place)

@@ -1,8 +1,7 @@
 -- Drawing into two lanes at once: into no word, into one, and into spans that meet; and what the lanes then are.
-use Rattle.std.proofs.Common.{◌≡◌, ℕ, ◌<◌, ◌≤◌, Bool, false, List, length, get_or, map, replicate, refl, sym, ap, ◌∙◌, arith, ⊎_elim}
+use Rattle.std.proofs.Common.{◌≡◌, ℕ, ◌<◌, ◌≤◌, Bool, false, List, length, get_or, map, replicate, refl, sym, ap, ◌∙◌, arith}
 use Rattle.std.specs.Prelude.{◌≢◌, ◌-◌, ◌||◌}
 use Rattle.std.specs.List.{range_with_len}
-use Rattle.std.proofs.lemmas.Bool.{cases_lt}
 use Rattle.rand_pcg.specs.Lcg.{Lcg}
 use Rattle.bit_rows.specs.Lanes.{lane, lane_bit}
 use Rattle.forward_sim.specs.declared.span.Span.{Span}

@@ -28,7 +28,7 @@ along_start program faults coins place n most m well_formed first qubits room sa
 
 -- a step that the walk went over: it can be taken, and the run goes along
 module _ (program : KeptProgram) (old new : Walked) (step : Step) (faults coins : List Bool) (n most : ℕ) (m : RunState)
-  (well_formed : IsWellFormed program.listing) (over : GoesOver program old new step) (along : GoesAlong program.listing faults coins old.place n most m) where
+    (well_formed : IsWellFormed program.listing) (over : GoesOver program old new step) (along : GoesAlong program.listing faults coins old.place n most m) where
   pub along_can : CanTake program step n (length m.records) most
   along_can =
       let next = step_is_next program.listing faults coins old.place new.place (listed_of program step) m well_formed over.left along.rest in

@@ -1,6 +1,6 @@
 //! The steps of a reference run: no fault happens, and of each collapse the word that it replaced is read. (A collapse is
 //! the projective measurement inside a measurement or a reset.)
-ghost use Rattle.std.specs.Prelude.{◌≡◌, ◌+◌, ◌<◌, ◌≤◌, [], false, None, length, IfSome};
+ghost use Rattle.std.specs.Prelude.{◌≡◌, ◌<◌, ◌≤◌, [], false, None, length, IfSome};
 ghost use Rattle.pauli_word.specs.States.{outcome};
 ghost use Rattle.pauli_word.specs.Words.{lone_letter};
 ghost use Rattle.programs.specs.Listed.{listed};

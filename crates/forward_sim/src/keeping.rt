@@ -1,5 +1,5 @@
 //! A reference run is made: its records, and the words that its collapses replaced, where there is room for them.
-ghost use Rattle.std.specs.Prelude.{◌≡◌, ◌+◌, ◌≤◌, [], true, length, IfOk, OnOk};
+ghost use Rattle.std.specs.Prelude.{◌≡◌, [], true, length, IfOk, OnOk};
 ghost use Rattle.programs.specs.Listed.{listed};
 ghost use Rattle.step_model.specs.Frames.{zero_coins};
 ghost use Rattle.step_model.specs.Runs.{next, records_of, start};

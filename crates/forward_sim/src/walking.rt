@@ -1,4 +1,4 @@
-ghost use Rattle.std.specs.Prelude.{◌≡◌, ◌+◌, ◌≤◌, [], length, IfOk};
+ghost use Rattle.std.specs.Prelude.{◌≡◌, [], length, IfOk};
 ghost use Rattle.programs.specs.Listed.{listed};
 ghost use Rattle.step_model.specs.Runs.{next, start};
 ghost use Rattle.forward_sim.specs.References.{entry_of, walking_qubits, walking_run, IsStepEntry};

@@ -94,6 +94,7 @@ fn push_batch<W: Sink, A: Allocator + Copy>(
     ensures taken { rng.new ≡ shot_generator runs.old.program rng.old count }
     ensures program { runs.new.program ≡ runs.old.program }
     ensures shown { runs.new.shown ≡ runs.old.shown }
+    ensures passed { drawn.new.passed ≡ drawn.old.passed }
     ensures fit { FitTogether drawn.new runs.new line.new }
 {
     drawn.draw(count, rng);

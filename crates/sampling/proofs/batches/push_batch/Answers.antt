@@ -59,6 +59,7 @@ returns g c =
       taken = c.draw.ensures.taken ∙ ap₂ (λ a b. after_shots a b count rng) n c.requires.fit.coins;
       program = c.run.ensures.program;
       shown = c.run.ensures.shown;
+      passed = c.draw.ensures.passed;
       fit = record {
         bounds = c.draw.ensures.bounds ∙ (c.requires.fit.bounds ∙ ap bounds_of (sym c.run.ensures.program));
         coins = c.draw.ensures.drawn.coin_count ∙ (c.requires.fit.coins ∙ ap (λ (p : Listing). p.collapses) (sym c.run.ensures.program));
