@@ -14,12 +14,13 @@ written n new old = take n (new ++ drop (length new) old)
 over : (n : ℕ) (new old : List ℕ) → length new ≡ n → written n new old ≡ new
 over n new old h = ap (λ k. take k (new ++ drop (length new) old)) (sym h) ∙ take-append_seam new (drop (length new) old)
 
-pub draw_lanes-requires-clause-faults : goal.draw_lanes-requires-clause-faults
-draw_lanes-requires-clause-faults g c =
-    ap length c.deref_mut.ensures.value ∙ c.self.invariant.0 ∙ sym (ap (λ (rs : List BoundRun). length (bounds_in rs)) c.as_slice.ensures.value)
-
-pub draw_lanes-requires-clause-within : goal.draw_lanes-requires-clause-within
-draw_lanes-requires-clause-within g c = omega (arith, c.self.invariant.2, ap length c.deref_mut-2.ensures.value)
+pub draw_lanes-requires-clause-room : goal.draw_lanes-requires-clause-room
+draw_lanes-requires-clause-room g c =
+    record {
+      faults_fit = ap length c.deref_mut.ensures.value ∙ c.self.invariant.faults_fit ∙ sym (ap (λ (rs : List BoundRun). length (bounds_in rs)) c.as_slice.ensures.value);
+      order = c.self.invariant.order;
+      within = omega (arith, c.self.invariant.within, ap length c.deref_mut-2.ensures.value);
+    }
 
 pub invariant_of-self : goal.invariant_of-self
 invariant_of-self g c =
@@ -27,9 +28,13 @@ invariant_of-self g c =
     let bounds = ap (λ (rs : List BoundRun). length (bounds_in rs)) c.as_slice.ensures.value in
     let coins = drawn.coin_count ∙ ap length c.deref_mut-2.ensures.value in
     let faults_len : length c.draw_lanes.new.faults ≡ c.self.inside.faults.len =
-    omega (arith, drawn.fault_count, bounds, c.self.invariant.0, c.self.inside.faults.ok.0) in
+    omega (arith, drawn.fault_count, bounds, c.self.invariant.faults_fit, c.self.inside.faults.ok.0) in
     let coins_len : length c.draw_lanes.new.coins ≡ c.self.inside.coins.len = omega (arith, coins, c.self.inside.coins.ok.0) in
-    (ap length (over c.self.inside.faults.len c.draw_lanes.new.faults c.self.inside.faults.items faults_len) ∙ drawn.fault_count ∙ bounds, c.self.invariant.1, omega (arith, c.self.invariant.2, coins, ap length (over c.self.inside.coins.len c.draw_lanes.new.coins c.self.inside.coins.items coins_len)))
+    record {
+      faults_fit = ap length (over c.self.inside.faults.len c.draw_lanes.new.faults c.self.inside.faults.items faults_len) ∙ drawn.fault_count ∙ bounds;
+      order = c.self.invariant.order;
+      within = omega (arith, c.self.invariant.within, coins, ap length (over c.self.inside.coins.len c.draw_lanes.new.coins c.self.inside.coins.items coins_len));
+    }
 
 pub returns-clause-drawn : goal.returns-clause-drawn
 returns-clause-drawn g c =
@@ -40,7 +45,7 @@ returns-clause-drawn g c =
     let drawn = c.draw_lanes.ensures.drawn in
     let bounds = ap (λ (rs : List BoundRun). length (bounds_in rs)) c.as_slice.ensures.value in
     let count = drawn.coin_count ∙ ap length c.deref_mut-2.ensures.value in
-    let faults_len : length faults ≡ inside.faults.len = omega (arith, drawn.fault_count, bounds, c.self.invariant.0, inside.faults.ok.0) in
+    let faults_len : length faults ≡ inside.faults.len = omega (arith, drawn.fault_count, bounds, c.self.invariant.faults_fit, inside.faults.ok.0) in
     let coins_len : length coins ≡ inside.coins.len = omega (arith, count, inside.coins.ok.0) in
     let of_runs = subst (λ (rs : List BoundRun). AreDrawn inside.passed (bounds_in rs) (length c.deref_mut-2.result.now) c.args.count rng faults coins) c.as_slice.ensures.value drawn in
     let of_coins = subst (λ (cs : List ℕ). AreDrawn inside.passed (bounds_in inside.runs.items) (length cs) c.args.count rng faults coins) c.deref_mut-2.ensures.value of_runs in
