@@ -15,24 +15,11 @@ use error_models::Model;
 use std::alloc::{AllocError, Allocator};
 
 /// Room for a line's targets and their numbers.
+#[derive(Drop)]
 struct Room<A: Allocator + Copy> {
     targets: Vec<Target, A>,
     numbers: Vec<u32, A>,
     kept: Vec<u32, A>,
-}
-
-// Written out, so that it is a call in the proof of each function that owns one.
-impl<A: Allocator + Copy> Drop for Room<A> {
-    fn drop(self) {
-        let Room {
-            targets,
-            numbers,
-            kept,
-        } = self;
-        drop(targets);
-        drop(numbers);
-        drop(kept);
-    }
 }
 
 /// Appends a line, if it is an error line.

@@ -47,27 +47,12 @@ fn list_at<A: Allocator + Copy>(lists: &FlatLists<i64, A>, mark: usize) -> &[i64
 
 /// The lists of coordinates given so far, each detector's mark, which is the number from 1 of the last list that it was
 /// given, or 0, and room for a line's coordinates and targets.
+#[derive(Drop)]
 struct Marking<A: Allocator + Copy> {
     lists: FlatLists<i64, A>,
     marks: Vec<usize, A>,
     room: Vec<i64, A>,
     targets: Vec<Target, A>,
-}
-
-// Written out, so that it is a call in the proof of each function that owns one.
-impl<A: Allocator + Copy> Drop for Marking<A> {
-    fn drop(self) {
-        let Marking {
-            lists,
-            marks,
-            room,
-            targets,
-        } = self;
-        drop(lists);
-        drop(marks);
-        drop(room);
-        drop(targets);
-    }
 }
 
 impl<A: Allocator + Copy> Marking<A> {

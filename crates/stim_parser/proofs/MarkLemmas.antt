@@ -1,5 +1,5 @@
 -- The marks of items stay numbers of probabilities where more texts are kept, and those of one line more are such numbers.
-use Rattle.std.proofs.Common.{◌≡◌, ◌≤◌, ◌+◌, ℕ, zero, suc, List, [], ◌∷◌, ◌++◌, length, get_or, Option, None, Some, Result, Ok, Err, IfOk, slice_get, sym, ap₂, subst, ◌∙◌, append-nil, arith}
+use Rattle.std.proofs.Common.{◌≡◌, ◌≤◌, ◌+◌, ℕ, zero, suc, List, [], ◌∷◌, ◌++◌, length, get_or, Option, None, Some, slice_get, sym, ap₂, subst, ◌∙◌, append-nil, arith}
 use Rattle.step_model.specs.declared.chances.ChanceText.{ChanceText}
 use Rattle.step_model.specs.Chances.{Chance, KeepsChances}
 use Rattle.stim_lexer.specs.declared.said.Said.{Said}
@@ -101,9 +101,3 @@ marked_at {O} {T} table texts (first ∷ items) (mark ∷ marks) zero item m got
     let same : item ≡ first = cc in
     subst (λ (x : Item (Instruction O T)). IsMarked table texts x mark) (sym same) m.0
 marked_at table texts (first ∷ items) (mark ∷ marks) (suc i) item m got = marked_at table texts items marks i item m.1 got
-
--- ---- what a call that went well gives
-
-pub ok_both : {X E A B C : Type 0} (r : Result X E) → (A → B → C) → IfOk r (λ _. A) → IfOk r (λ _. B) → IfOk r (λ _. C)
-ok_both (Ok x) f a b = f a b
-ok_both (Err e) f a b = tt
