@@ -5,7 +5,7 @@ use step_model::Fault;
 
 /// What is asked of a text. It is a circuit's; for `Predict` alone it is an error model's. At most 1,000,000 shots may
 /// be asked for; more are refused.
-#[derive(Clone, Copy, Debug)]
+#[derive(Clone, Copy)]
 pub enum Order<'o> {
     /// The records and the detections of one run. The coins are one digit for each collapse, all 0 where none are
     /// given; the faults that happen are a list of numbers. A collapse is the projective measurement inside a
