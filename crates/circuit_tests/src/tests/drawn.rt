@@ -41,6 +41,14 @@ struct Tally {
 }
 
 impl Tally {
+    fn is_varied(&self) -> bool {
+        (self.models >= 40)
+            & (self.randoms >= 40)
+            & (self.silent > 100)
+            & (self.single > 100)
+            & (self.several > 100)
+    }
+
     fn count_fault(&mut self, flips: usize) {
         match flips {
             0 => self.silent = self.silent.saturating_add(1),
@@ -63,11 +71,11 @@ fn texts_of_seeds_1_to_200(rt: HostRuntime) -> Result<(), Fail> {
         check_seed(&rt, rt.alloc(), seed, &mut tally)?;
     }
     // Both answers come often, and so does each kind of fault.
-    assert!(rt; tally.models >= 40, "models {}", tally.models);
-    assert!(rt; tally.randoms >= 40, "random {}", tally.randoms);
     assert!(rt;
-        tally.silent > 100 && tally.single > 100 && tally.several > 100,
-        "silent {}, single {}, several {}",
+        tally.is_varied(),
+        "models {}, random {}, silent {}, single {}, several {}",
+        tally.models,
+        tally.randoms,
         tally.silent,
         tally.single,
         tally.several

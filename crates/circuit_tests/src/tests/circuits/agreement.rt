@@ -3,14 +3,14 @@
 use forward_sim::{Records, run};
 use programs::Program;
 use std::alloc::Global;
-use std::test::Fail;
+use step_model::Fault;
 
 /// Whether the run with these faults and coins makes the records of the plain reading.
 pub(super) fn records_agree(
     alloc: Global,
     program: &Program<'_, Global>,
     given: (&[bool], &[bool]),
-) -> Result<bool, Fail> {
+) -> Result<bool, Fault> {
     let plain = plain_runs::records(alloc, program, given.0, given.1)?;
     run_agrees(alloc, program, given, plain.as_slice())
 }
@@ -21,7 +21,7 @@ fn run_agrees(
     program: &Program<'_, Global>,
     given: (&[bool], &[bool]),
     plain: &[bool],
-) -> Result<bool, Fail> {
+) -> Result<bool, Fault> {
     let records = run(alloc, program, given.0, given.1)?;
     Ok(are_same(&records, plain))
 }

@@ -1,52 +1,40 @@
 //! Analyses as the table has them, by both trackers, and the coin pairs of its random targets.
 
-use super::runs::differences;
-use crate::tests::words::{dense_words, sparse_words};
-use backward::{Analysed, analyse};
+use crate::tests::differences::differences;
+use crate::tests::tables::are_coins;
+use crate::tests::words::{by_dense, by_sparse};
+use backward::Analysed;
 use frames::coin_pair;
 use plain_runs::place_of;
 use programs::Program;
 use std::alloc::{AllocError, Global};
-use std::test::Fail;
 use step_model::{Fault, MemorySink, Place};
-use test_support::{are_digits, text_of};
+use test_support::text_of;
 
 /// Whether each tracker gives this answer.
 pub(super) fn answers_hold(
     alloc: Global,
     answer: &str,
     program: &Program<'_, Global>,
-) -> Result<bool, Fail> {
+) -> Result<bool, Fault> {
     if !dense_holds(alloc, answer, program)? {
         return Ok(false);
     }
     sparse_holds(&alloc, answer, program)
 }
 
-fn dense_holds(alloc: Global, answer: &str, program: &Program<'_, Global>) -> Result<bool, Fail> {
+fn dense_holds(alloc: Global, answer: &str, program: &Program<'_, Global>) -> Result<bool, Fault> {
     let analysed = by_dense(alloc, program)?;
     answer_holds(alloc, answer, program, &analysed)
 }
 
-fn sparse_holds(alloc: &Global, answer: &str, program: &Program<'_, Global>) -> Result<bool, Fail> {
+fn sparse_holds(
+    alloc: &Global,
+    answer: &str,
+    program: &Program<'_, Global>,
+) -> Result<bool, Fault> {
     let analysed = by_sparse(alloc, program)?;
     answer_holds(*alloc, answer, program, &analysed)
-}
-
-/// The analysis by rows of bits.
-pub(super) fn by_dense<'p>(
-    alloc: Global,
-    program: &Program<'p, Global>,
-) -> Result<Analysed<'p, Global>, Fail> {
-    Ok(analyse(alloc, program, dense_words(alloc, program)?)?)
-}
-
-/// The analysis by lists of targets.
-pub(super) fn by_sparse<'p>(
-    alloc: &Global,
-    program: &Program<'p, Global>,
-) -> Result<Analysed<'p, Global>, Fail> {
-    Ok(analyse(*alloc, program, sparse_words(alloc, program)?)?)
 }
 
 fn answer_holds(
@@ -54,7 +42,7 @@ fn answer_holds(
     answer: &str,
     program: &Program<'_, Global>,
     analysed: &Analysed<'_, Global>,
-) -> Result<bool, Fail> {
+) -> Result<bool, Fault> {
     match analysed {
         Analysed::Model(_) => is_model(alloc, analysed, answer),
         Analysed::Random { which, place } => random_holds(alloc, answer, program, (*which, *place)),
@@ -67,7 +55,7 @@ fn random_holds(
     answer: &str,
     program: &Program<'_, Global>,
     (which, place): (u32, Place),
-) -> Result<bool, Fail> {
+) -> Result<bool, Fault> {
     match coins_behind(alloc, answer, (which, place))? {
         Some(coins) => has_pair(alloc, program, (which as usize, place), coins),
         None => Ok(false),
@@ -93,7 +81,7 @@ fn named(alloc: Global, which: u32, place: Place) -> Result<String, AllocError> 
 }
 
 /// Whether the answer is the model of this text.
-fn is_model(alloc: Global, analysed: &Analysed<'_, Global>, expected: &str) -> Result<bool, Fail> {
+fn is_model(alloc: Global, analysed: &Analysed<'_, Global>, expected: &str) -> Result<bool, Fault> {
     let mut sink = MemorySink::new(alloc);
     if !writes_model(analysed, &mut sink)? {
         return Ok(false);
@@ -125,7 +113,7 @@ fn has_pair(
     program: &Program<'_, Global>,
     (target, place): (usize, Place),
     coins: &str,
-) -> Result<bool, Fail> {
+) -> Result<bool, Fault> {
     let (first, second) = coin_pair(alloc, program, place)?;
     let pair = (first.as_slice(), second.as_slice());
     pair_holds(alloc, program, (target, place), pair, coins)
@@ -138,16 +126,11 @@ fn pair_holds(
     (target, place): (usize, Place),
     pair: (&[bool], &[bool]),
     coins: &str,
-) -> Result<bool, Fail> {
+) -> Result<bool, Fault> {
     if !are_coins(pair, coins) {
         return Ok(false);
     }
     is_random(alloc, program, (target, place), pair)
-}
-
-/// Whether the pair is as many zeros, and these coins.
-fn are_coins((first, second): (&[bool], &[bool]), coins: &str) -> bool {
-    first.len() == second.len() && first.iter().all(|coin| !*coin) && are_digits(second, coins)
 }
 
 /// Whether a target has this place, and different parities in the runs without faults under these coins.
@@ -156,7 +139,7 @@ fn is_random(
     program: &Program<'_, Global>,
     (target, place): (usize, Place),
     pair: (&[bool], &[bool]),
-) -> Result<bool, Fail> {
+) -> Result<bool, Fault> {
     if !has_place(alloc, program, target, place)? {
         return Ok(false);
     }
@@ -180,7 +163,7 @@ fn differs(
     program: &Program<'_, Global>,
     target: usize,
     (first, second): (&[bool], &[bool]),
-) -> Result<bool, Fail> {
+) -> Result<bool, Fault> {
     let differ = differences(alloc, program, (&[], second), first)?;
     Ok(differ.get(target).copied() == Some(true))
 }

@@ -7,8 +7,8 @@ use frames::Batch;
 use programs::Program;
 use rand_core::SeedableRng;
 use rand_pcg::Pcg64;
-use std::alloc::Global;
-use std::test::Fail;
+use std::alloc::{AllocError, Global};
+use step_model::Fault;
 use test_support::text_of;
 use unroll::read_program;
 
@@ -23,21 +23,20 @@ const TEXTS: &[&str] = &[
 ];
 
 #[test]
-fn batches_of_fixed_texts(rt: HostRuntime) -> Result<(), Fail> {
+fn batches_of_fixed_texts(rt: HostRuntime) {
     for text in TEXTS {
-        assert!(rt; text_agrees(rt.alloc(), text)?, "{text}");
+        assert!(rt; matches!(text_agrees(rt.alloc(), text), Ok(true)), "{text}");
     }
-    Ok(())
 }
 
-fn text_agrees(alloc: Global, lines: &str) -> Result<bool, Fail> {
+fn text_agrees(alloc: Global, lines: &str) -> Result<bool, Fault> {
     let text = text_of(alloc, lines)?;
     let program = read_program(alloc, text.as_slice())?;
     batches_agree(alloc, &program)
 }
 
 /// Whether the records of each run in a batch are those that it makes alone.
-pub(super) fn batches_agree(alloc: Global, program: &Program<'_, Global>) -> Result<bool, Fail> {
+pub(super) fn batches_agree(alloc: Global, program: &Program<'_, Global>) -> Result<bool, Fault> {
     for bytes in ROOMS {
         if !batch_agrees(alloc, program, *bytes)? {
             return Ok(false);
@@ -47,7 +46,7 @@ pub(super) fn batches_agree(alloc: Global, program: &Program<'_, Global>) -> Res
 }
 
 /// The same in one batch.
-fn batch_agrees(alloc: Global, program: &Program<'_, Global>, bytes: usize) -> Result<bool, Fail> {
+fn batch_agrees(alloc: Global, program: &Program<'_, Global>, bytes: usize) -> Result<bool, Fault> {
     let mut batch = Batch::in_room(alloc, program, bytes)?;
     all_agree(alloc, program, &mut batch)
 }
@@ -57,7 +56,7 @@ fn all_agree(
     alloc: Global,
     program: &Program<'_, Global>,
     batch: &mut Batch<Global>,
-) -> Result<bool, Fail>
+) -> Result<bool, Fault>
     requires { IsBatchOf program.now.listing batch.old }
 {
     let mut shots = Shots::new(alloc, program, Span { start: 0, end: 0 })?;
@@ -75,7 +74,7 @@ fn next_agree(
     batch: &mut Batch<Global>,
     shots: &mut Shots<Global>,
     rng: &mut Pcg64,
-) -> Result<bool, Fail>
+) -> Result<bool, Fault>
     requires { IsBatchOf program.now.listing batch.old }
     ensures { IsBatchOf program.now.listing batch.new }
 {
@@ -89,7 +88,7 @@ fn runs_agree(
     program: &Program<'_, Global>,
     batch: &Batch<Global>,
     shots: &Shots<Global>,
-) -> Result<bool, Fail> {
+) -> Result<bool, Fault> {
     for shot in 0..64 {
         let faults = lane(alloc, shots.faults(), shot)?;
         let coins = lane(alloc, shots.coins(), shot)?;
@@ -102,7 +101,7 @@ fn runs_agree(
 }
 
 /// What these words hold for a run.
-fn lane(alloc: Global, words: &[u64], shot: u32) -> Result<Vec<bool>, Fail>
+fn lane(alloc: Global, words: &[u64], shot: u32) -> Result<Vec<bool>, AllocError>
     requires { shot < 64 }
 {
     let mut values = Vec::new(alloc);

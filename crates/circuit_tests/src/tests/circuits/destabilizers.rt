@@ -5,7 +5,6 @@ ghost use Rattle.tableau.specs.Rows.{row_count};
 
 use pauli_word::{Letter, Word};
 use std::alloc::{AllocError, Global};
-use std::test::Fail;
 use tableau::{Tableau, laws};
 
 const QUBITS: usize = 66;
@@ -15,9 +14,8 @@ type Named = [Option<usize>; QUBITS];
 
 /// Each named row's destabilizer anticommutes with the word whose collapse named it, and with no other.
 #[test]
-fn pair_with_stabilizers(rt: HostRuntime) -> Result<(), Fail> {
-    assert!(rt; all_pair(rt.alloc())?);
-    Ok(())
+fn pair_with_stabilizers(rt: HostRuntime) {
+    assert!(rt; matches!(all_pair(rt.alloc()), Ok(true)));
 }
 
 fn all_pair(alloc: Global) -> Result<bool, AllocError> {

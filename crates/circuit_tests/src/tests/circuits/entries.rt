@@ -34,14 +34,14 @@ fn named(alloc: Global, program: &Program<'_, Global>) -> Result<Vec<u32>, Alloc
     Ok(entries)
 }
 
+fn are_named(alloc: Global, program: &Program<'_, Global>) -> Result<bool, AllocError> {
+    let entries = named(alloc, program)?;
+    Ok(entries.as_slice() == NAMED.as_slice())
+}
+
 #[test]
 fn faults_share_entries(rt: HostRuntime) -> Result<(), Fail> {
     let program = read_program(rt.alloc(), CIRCUIT)?;
-    let entries = named(rt.alloc(), &program)?;
-    assert!(rt;
-        entries.as_slice() == NAMED.as_slice(),
-        "{:?}",
-        entries.as_slice()
-    );
+    assert!(rt; are_named(rt.alloc(), &program)?);
     Ok(())
 }

@@ -1,9 +1,10 @@
 //! Runs as the table has them, by the tableau and straight from the definitions.
-use forward_sim::{Records, detections, read_coins, read_numbers, run};
+use crate::tests::differences::differences;
+use forward_sim::{Records, read_coins, read_numbers, run};
 use programs::Program;
 use sampling::digit;
 use std::alloc::Global;
-use std::test::Fail;
+use step_model::Fault;
 use test_support::are_digits;
 
 /// Whether there are runs in a text, and each is as it says.
@@ -11,7 +12,7 @@ pub(super) fn runs_hold(
     alloc: Global,
     program: &Program<'_, Global>,
     runs: &str,
-) -> Result<bool, Fail> {
+) -> Result<bool, Fault> {
     let mut holds = false;
     for run in runs.split_whitespace() {
         holds = run_holds(alloc, program, run)?;
@@ -22,7 +23,7 @@ pub(super) fn runs_hold(
     Ok(holds)
 }
 
-fn run_holds(alloc: Global, program: &Program<'_, Global>, run: &str) -> Result<bool, Fail> {
+fn run_holds(alloc: Global, program: &Program<'_, Global>, run: &str) -> Result<bool, Fault> {
     match given_of(run) {
         Some((faults, coins, expected)) => is_as_written(alloc, program, (faults, coins), expected),
         None => Ok(false),
@@ -41,7 +42,7 @@ fn is_as_written(
     program: &Program<'_, Global>,
     given: (&str, &str),
     expected: &str,
-) -> Result<bool, Fail> {
+) -> Result<bool, Fault> {
     let count = program.fault_count() as usize;
     let faults = read_numbers(alloc, count, given.0.as_bytes())?;
     let coins = read_coins(alloc, program, given.1.as_bytes())?;
@@ -59,7 +60,7 @@ fn is_run(
     program: &Program<'_, Global>,
     given: (&[bool], &[bool]),
     expected: &str,
-) -> Result<bool, Fail> {
+) -> Result<bool, Fault> {
     let Some((records, detections)) = expected.split_once(';') else {
         return Ok(false);
     };
@@ -77,7 +78,7 @@ fn records_are(
     program: &Program<'_, Global>,
     given: (&[bool], &[bool]),
     digits: &str,
-) -> Result<bool, Fail> {
+) -> Result<bool, Fault> {
     let records = run(alloc, program, given.0, given.1)?;
     Ok(are_written(&records, digits))
 }
@@ -97,7 +98,7 @@ fn plain_records_are(
     program: &Program<'_, Global>,
     given: (&[bool], &[bool]),
     digits: &str,
-) -> Result<bool, Fail> {
+) -> Result<bool, Fault> {
     let records = plain_runs::records(alloc, program, given.0, given.1)?;
     Ok(are_digits(records.as_slice(), digits))
 }
@@ -107,19 +108,7 @@ fn detections_are(
     program: &Program<'_, Global>,
     given: (&[bool], &[bool]),
     digits: &str,
-) -> Result<bool, Fail> {
+) -> Result<bool, Fault> {
     let differ = differences(alloc, program, given, &[])?;
     Ok(are_digits(differ.as_slice(), digits))
-}
-
-/// The targets that differ between the run with these faults and coins and that without faults and with other coins.
-pub(super) fn differences(
-    alloc: Global,
-    program: &Program<'_, Global>,
-    given: (&[bool], &[bool]),
-    others: &[bool],
-) -> Result<Vec<bool>, Fail> {
-    let records = run(alloc, program, given.0, given.1)?;
-    let reference = run(alloc, program, &[], others)?;
-    Ok(detections(alloc, program, &records, &reference)?)
 }

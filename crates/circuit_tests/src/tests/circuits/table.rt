@@ -4,11 +4,13 @@ mod rows;
 use super::analyses::answers_hold;
 use super::beside::batches_agree;
 use super::runs::runs_hold;
+use crate::tests::tables::parts_of;
 use programs::Program;
 use rows::{BLOCKS, FAULTS, FEEDBACK, GATES, PRODUCTS, RESETS};
 use std::alloc::Global;
 use std::process::Abort;
 use std::test::Fail;
+use step_model::Fault;
 use test_support::text_of;
 use unroll::read_program;
 
@@ -31,7 +33,7 @@ fn rows_of_the_tables(rt: HostRuntime) -> Result<(), Fail> {
 }
 
 /// Each of so many rows holds.
-fn check_rows(rt: &impl Abort, alloc: Global, rows: &str, count: usize) -> Result<(), Fail> {
+fn check_rows(rt: &impl Abort, alloc: Global, rows: &str, count: usize) -> Result<(), Fault> {
     for row in rows.lines() {
         assert!(rt; row_holds(alloc, row)?, "{row}");
     }
@@ -39,26 +41,19 @@ fn check_rows(rt: &impl Abort, alloc: Global, rows: &str, count: usize) -> Resul
     Ok(())
 }
 
-fn row_holds(alloc: Global, row: &str) -> Result<bool, Fail> {
+fn row_holds(alloc: Global, row: &str) -> Result<bool, Fault> {
     match parts_of(row) {
         Some((circuit, answer, runs)) => circuit_holds(alloc, circuit, (answer, runs)),
         None => Ok(false),
     }
 }
 
-/// A row's circuit, its answer and its runs.
-fn parts_of(row: &str) -> Option<(&str, &str, &str)> {
-    let (circuit, rest) = row.split_once(" = ")?;
-    let (answer, runs) = rest.split_once(" = ")?;
-    Some((circuit, answer, runs))
-}
-
-fn circuit_holds(alloc: Global, circuit: &str, worked: (&str, &str)) -> Result<bool, Fail> {
+fn circuit_holds(alloc: Global, circuit: &str, worked: (&str, &str)) -> Result<bool, Fault> {
     let text = text_of(alloc, circuit)?;
     text_holds(alloc, text.as_slice(), worked)
 }
 
-fn text_holds(alloc: Global, text: &[u8], worked: (&str, &str)) -> Result<bool, Fail> {
+fn text_holds(alloc: Global, text: &[u8], worked: (&str, &str)) -> Result<bool, Fault> {
     let program = read_program(alloc, text)?;
     program_holds(alloc, &program, worked)
 }
@@ -67,7 +62,7 @@ fn program_holds(
     alloc: Global,
     program: &Program<'_, Global>,
     (answer, runs): (&str, &str),
-) -> Result<bool, Fail> {
+) -> Result<bool, Fault> {
     if !answers_hold(alloc, answer, program)? {
         return Ok(false);
     }

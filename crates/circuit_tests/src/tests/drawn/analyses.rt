@@ -5,8 +5,8 @@ use super::models::model_holds;
 use super::parts::parts_hold;
 use super::randoms::random_holds;
 use super::{Finding, Tally};
-use crate::tests::words::{dense_words, sparse_words};
-use backward::{Analysed, analyse};
+use crate::tests::words::{by_dense, by_sparse};
+use backward::Analysed;
 use programs::Program;
 use std::alloc::Global;
 use step_model::{Fault, Place};
@@ -21,7 +21,7 @@ pub(super) fn finding_of(
     tally: &mut Tally,
 ) -> Result<Finding, Fault> {
     let sparse = random_by_sparse(&alloc, program)?;
-    let analysed = analyse_dense(alloc, program)?;
+    let analysed = by_dense(alloc, program)?;
     if random_of(&analysed) != sparse {
         return Ok(Finding::Wrong("the trackers differ"));
     }
@@ -59,33 +59,13 @@ fn answer_holds(
     }
 }
 
-fn analyse_dense<'a>(
-    alloc: Global,
-    program: &Program<'a, Global>,
-) -> Result<Analysed<'a, Global>, Fault> {
-    match dense_words(alloc, program) {
-        Ok(words) => analyse(alloc, program, words),
-        Err(_) => Err(Fault::MEMORY),
-    }
-}
-
 /// The random target and its place, by lists of targets.
 fn random_by_sparse(
     alloc: &Global,
     program: &Program<'_, Global>,
 ) -> Result<Option<(u32, Place)>, Fault> {
-    let analysed = analyse_sparse(alloc, program)?;
+    let analysed = by_sparse(alloc, program)?;
     Ok(random_of(&analysed))
-}
-
-fn analyse_sparse<'a>(
-    alloc: &Global,
-    program: &Program<'a, Global>,
-) -> Result<Analysed<'a, Global>, Fault> {
-    match sparse_words(alloc, program) {
-        Ok(words) => analyse(*alloc, program, words),
-        Err(_) => Err(Fault::MEMORY),
-    }
 }
 
 fn random_of(analysed: &Analysed<'_, Global>) -> Option<(u32, Place)> {

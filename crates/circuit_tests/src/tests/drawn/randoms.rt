@@ -3,7 +3,7 @@
 use super::Finding;
 use super::drawing::Drawing;
 use super::marks::Marks;
-use super::runs::{are_fixed_below, differences, records_differ_as_coins};
+use super::runs::{are_fixed_below, differing_targets, records_differ_as_coins};
 use frames::coin_pair;
 use programs::Program;
 use std::alloc::Global;
@@ -36,7 +36,7 @@ fn pair_holds(
     pair: (&[bool], &[bool]),
     drawing: &Drawing,
 ) -> Result<Finding, Fault> {
-    if !differences(alloc, program, &Marks::none(), pair)?.has(which as usize) {
+    if !differing_targets(alloc, program, &Marks::none(), pair)?.has(which as usize) {
         return Ok(Finding::Wrong("the coins don't tell the target apart"));
     }
     if !records_differ_as_coins(alloc, program, pair, drawing)? {

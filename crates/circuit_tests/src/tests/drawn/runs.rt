@@ -1,35 +1,21 @@
 //! What runs under drawn coins say that faults flip.
-ghost use Rattle.std.specs.Prelude.{◌≡◌, length, IfOk};
-
 use super::drawing::{Drawing, RECORDED};
 use super::marks::Marks;
-use forward_sim::{Records, detections, run};
+use crate::tests::differences::differences;
+use forward_sim::{Records, run};
 use programs::Program;
 use std::alloc::Global;
 use step_model::Fault;
 
 /// The targets whose parity differs between the run with these faults and that without any, each under coins of its own.
-pub(super) fn differences(
+pub(super) fn differing_targets(
     alloc: Global,
     program: &Program<'_, Global>,
     faults: &Marks,
     (coins, others): (&[bool], &[bool]),
 ) -> Result<Marks, Fault> {
-    let records = records_of(alloc, program, faults.as_slice(), coins)?;
-    let reference = records_of(alloc, program, &[], others)?;
-    let differ = detections(alloc, program, &records, &reference)?;
+    let differ = differences(alloc, program, (faults.as_slice(), coins), others)?;
     Ok(Marks::of(differ.as_slice()))
-}
-
-fn records_of(
-    alloc: Global,
-    program: &Program<'_, Global>,
-    faults: &[bool],
-    coins: &[bool],
-) -> Result<Records<Global>, Fault>
-    ensures { IfOk result (λ records. length records ≡ program.now.listing.records) }
-{
-    run(alloc, program, faults, coins)
 }
 
 /// The targets that these faults flip, each run under coins that are drawn for it.
@@ -41,7 +27,7 @@ pub(super) fn flipped(
 ) -> Result<Marks, Fault> {
     let coins = draw_coins(drawing);
     let others = draw_coins(drawing);
-    differences(
+    differing_targets(
         alloc,
         program,
         faults,
@@ -111,8 +97,8 @@ pub(super) fn records_differ_as_coins(
     (coins, others): (&[bool], &[bool]),
     drawing: &Drawing,
 ) -> Result<bool, Fault> {
-    let records = records_of(alloc, program, &[], coins)?;
-    let reference = records_of(alloc, program, &[], others)?;
+    let records = run(alloc, program, &[], coins)?;
+    let reference = run(alloc, program, &[], others)?;
     let differ = differing(&records, &reference);
     Ok(differ.is_same(&flips_of_records((coins, others), drawing)))
 }

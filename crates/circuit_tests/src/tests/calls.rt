@@ -1,0 +1,20 @@
+//! Single public calls of the libraries, each on rows worked by hand: what no clause of theirs says.
+mod arguments;
+mod batches;
+mod bits;
+mod by_hand;
+mod coin_pairs;
+mod drawn_shots;
+mod entries;
+mod faults;
+mod gates;
+mod last_probabilities;
+mod lines;
+mod lists;
+mod long_streams;
+mod numbers;
+mod read_models;
+mod reader_ends;
+mod texts;
+mod walks;
+mod words;
