@@ -19,6 +19,7 @@ const MANY: usize = 16;
 /// They are kept as linked lists, and a few targets are toggled there. Where feedback toggles many, the set is taken out
 /// of the lists and kept apart, as targets of which each is in the set where it is listed an odd number of times, and
 /// is put back when another record's is wanted. So it takes a few steps a target.
+#[derive(Drop)]
 pub(crate) struct ChangingLists<'s, A: Allocator + Copy> {
     targets: usize,
     lists: RecordLists<'s, A>,
@@ -38,22 +39,6 @@ impl<'s, A: Allocator + Copy> Model for ChangingLists<'s, A> {
     ghost view = { λ c. with_apart c.targets c.lists c.apart c.set.items };
 
     ghost invariant = { λ c. IsApart c.targets c.lists c.apart c.set.items };
-}
-
-// Written out, so that it is a call in the proof of each function that owns one.
-impl<A: Allocator + Copy> Drop for ChangingLists<'_, A> {
-    fn drop(self) {
-        let ChangingLists {
-            targets: _,
-            lists,
-            apart: _,
-            set,
-            spare,
-        } = self;
-        drop(lists);
-        drop(set);
-        drop(spare);
-    }
 }
 
 impl<'s, A: Allocator + Copy> ChangingLists<'s, A> {

@@ -10,6 +10,7 @@ use std::marker::Model;
 
 /// Error lines, in the order in which they were pushed. A circuit has few different texts of probabilities, so a line
 /// keeps the number of its text.
+#[derive(Drop)]
 pub(crate) struct Lines<'a, A: Allocator + Copy> {
     texts: Vec<LineText<'a>, A>,
     numbers: Vec<usize, A>,
@@ -26,20 +27,6 @@ impl<'a, A: Allocator + Copy> Model for Lines<'a, A> {
     ghost view = { λ l. lines_of l.texts.items l.numbers.items l.targets };
 
     ghost invariant = { λ l. IsNumbered l.texts.items l.numbers.items l.targets };
-}
-
-// Written out, so that it is a call in the proof of each function that owns one.
-impl<A: Allocator + Copy> Drop for Lines<'_, A> {
-    fn drop(self) {
-        let Lines {
-            texts,
-            numbers,
-            targets,
-        } = self;
-        drop(texts);
-        drop(numbers);
-        drop(targets);
-    }
 }
 
 impl<'a, A: Allocator + Copy> Lines<'a, A> {

@@ -13,6 +13,7 @@ use std::marker::Model;
 use std::mem;
 
 /// Text in blocks of 64 KiB, with the room before it in the block that is being filled.
+#[derive(Drop)]
 pub(crate) struct TextBlocks<A: Allocator + Copy> {
     alloc: A,
     // The blocks that are full, in the order in which they were filled: the last part of the text first.
@@ -32,22 +33,6 @@ impl<A: Allocator + Copy> Model for TextBlocks<A> {
     ghost view = { λ t. record { text = text_in t.block t.full.items; room = t.block.room } };
 
     ghost invariant = { λ t. t.full_len ≡ min (length (texts_of t.full.items)) (2 ^ 64 - 1) };
-}
-
-// Written out, so that it is a call in the proof of each function that owns one.
-impl<A: Allocator + Copy> Drop for TextBlocks<A> {
-    fn drop(self) {
-        let TextBlocks {
-            alloc: _,
-            full,
-            full_len: _,
-            block,
-            spare,
-        } = self;
-        drop(full);
-        drop(block);
-        drop(spare);
-    }
 }
 
 impl<A: Allocator + Copy> TextBlocks<A> {
