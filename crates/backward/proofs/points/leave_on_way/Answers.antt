@@ -35,13 +35,13 @@ loop-at-preserved g c =
       | then-place-next+in_ok-leave w ↦
           let items = sym (ap (λ v. v.items) w.points-is) in (
             subst (ArePoints program c.args.from cut) items
-            (left_on_way program tracked c.args.from cut l.next l.at l.found l.points.items _ above (l.invariant.program_is ∙ c.requires.program) l.invariant.passed l.invariant.behind w.in_ok-leave.ensures l.invariant.points),
+                (left_on_way program tracked c.args.from cut l.next l.at l.found l.points.items _ above (l.invariant.program_is ∙ c.requires.program) l.invariant.passed l.invariant.behind w.in_ok-leave.ensures l.invariant.points),
             subst (All (λ p. place ≤ p.walk.place)) items (left_behind program tracked l.at l.points.items _ l.invariant.behind w.in_ok-leave.ensures),
           )
       | else-place-next w ↦
           let items = sym (ap (λ v. v.items) w.points-is) in (
             subst (ArePoints program c.args.from cut) items
-            (kept_on_way program c.args.from cut place l.next l.points.items (omega (arith, w.if-place-next.false, c.place-in-loop-at.ensures)) l.invariant.points),
+                (kept_on_way program c.args.from cut place l.next l.points.items (omega (arith, w.if-place-next.false, c.place-in-loop-at.ensures)) l.invariant.points),
             subst (All (λ p. place ≤ p.walk.place)) items (λ k d lt. let before : place < (get_or l.points.items k d).walk.place = l.invariant.behind k d lt in omega (arith, before)),
           )
     ] in

@@ -53,7 +53,7 @@ returns-in_err-write_parts-in-None g c =
     (inr (
       subst (λ o. IfNone o (NoneIsRandom program)) c.in-None.is c.in_ok-random.ensures.none,
       some-then c.args.sink.now c.args.sink.now c.write_parts.new.sink c.args.out.now c.args.out.now c.write_parts.new.out _ (text_between program 0 inner) (text_between program inner (length program.steps) ++ (detectors_text (model_of program) ++ observables_text (model_of program))) _
-      (whole_model program inner c.well_formed-2.ensures.listing within) Pushes-nil c.in_err-write_parts-in-None.ensures.some,
+          (whole_model program inner c.well_formed-2.ensures.listing within) Pushes-nil c.in_err-write_parts-in-None.ensures.some,
     ))
 
 pub returns-in_ok-write_parts-in-None : goal.returns-in_ok-write_parts-in-None
