@@ -90,22 +90,3 @@ returns-else-a-b-clause-long g c =
     parts.stay_long c.multiply_both-else-a-b.new.second c.multiply_both-else-a-b.new.first
     (c.multiply_both-else-a-b.ensures.second_len ∙ parts.first_long c.index-front-b.result)
     (c.multiply_both-else-a-b.ensures.first_len ∙ parts.second_long c.index-back-0-else-a-b.result)
-
--- ---- what is asked and left as it is
-pub multiply_both-requires-clause-x_is_lost : goal.multiply_both-requires-clause-x_is_lost
-multiply_both-requires-clause-x_is_lost g c = c.requires.x_is_lost
-
-pub multiply_both-requires-clause-z_is_lost : goal.multiply_both-requires-clause-z_is_lost
-multiply_both-requires-clause-z_is_lost g c = c.requires.z_is_lost
-
-pub multiply_both-requires-else-a-b-clause-x_is_lost : goal.multiply_both-requires-else-a-b-clause-x_is_lost
-multiply_both-requires-else-a-b-clause-x_is_lost g c = c.requires.x_is_lost
-
-pub multiply_both-requires-else-a-b-clause-z_is_lost : goal.multiply_both-requires-else-a-b-clause-z_is_lost
-multiply_both-requires-else-a-b-clause-z_is_lost g c = c.requires.z_is_lost
-
-pub returns-then-a-b-clause-spare : goal.returns-then-a-b-clause-spare
-returns-then-a-b-clause-spare g c = c.multiply_both.ensures.spare
-
-pub returns-else-a-b-clause-spare : goal.returns-else-a-b-clause-spare
-returns-else-a-b-clause-spare g c = c.multiply_both-else-a-b.ensures.spare
