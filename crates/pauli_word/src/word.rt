@@ -32,11 +32,7 @@ impl<A: Allocator + Copy> Model for Word<A> {
 // Written out, so that it is a call in the proof of each function that owns one.
 impl<A: Allocator + Copy> Drop for Word<A> {
     fn drop(self) {
-        let Word {
-            x,
-            z,
-            negative: _,
-        } = self;
+        let Word { x, z, negative: _ } = self;
         drop(x);
         drop(z);
     }

@@ -1,5 +1,5 @@
 -- The pairs are read and written through the two parts into which the rows are split.
-use Rattle.std.proofs.Common.{ℕ, ◌<◌, ◌≤◌, ◌++◌, set, slice_index_or, ap₂, sym, ◌∙◌, arith}
+use Rattle.std.proofs.Common.{ℕ, ◌*◌, ◌<◌, ◌≤◌, ◌++◌, Fits, w64, set, slice_index_or, ap₂, sym, ◌∙◌, arith, rules}
 use Rattle.tableau.proofs.ControlledRows.{AreRead, back_inside, comes_after, front_inside, parts_set, set_swapped, read_ahead, read_behind, first_there, second_there, commute_there, made_there}
 use Rattle.tableau.proofs.controlled.multiply_at.Given.{Over}
 use Rattle.tableau.proofs.controlled.multiply_at.Goals as goal
@@ -14,6 +14,16 @@ behind g c =
 
 split_inside : (k n : ℕ) → k < n → k ≤ n
 split_inside k n h = omega (arith, h)
+
+-- the first pair lies at 0, whatever a pair's size is
+fits_none : (size : ℕ) → Fits w64 (0 * size)
+fits_none size = search rules
+
+pub offset_bounds-0 : goal.offset_bounds-0
+offset_bounds-0 g c = fits_none _
+
+pub offset_bounds-0-else-a-b : goal.offset_bounds-0-else-a-b
+offset_bounds-0-else-a-b g c = fits_none _
 
 pub split_at_mut-front-requires : goal.split_at_mut-front-requires
 split_at_mut-front-requires g c = split_inside _ _ c.requires.second_inside
