@@ -25,17 +25,13 @@ const POINTS: usize = 60;
 /// A point takes little where there are no more qubits than these.
 const FEW_QUBITS: u32 = 256;
 
-// Counts a step, and answers whether it is the last of as many as `stride`; then it counts anew.
-fn is_last_of(stride: usize, left: &mut usize) -> bool
-    requires stride { 0 < stride }
-    requires left { 0 < left.old }
-    ensures { 0 < left.new }
-{
-    *left -= 1;
-    if *left > 0 {
+// Whether a place is one at which to ask; the next such is `stride` steps further back.
+#[inline(always)]
+fn is_due(place: usize, stride: usize, ask: &mut usize) -> bool {
+    if place > *ask {
         return false;
     }
-    *left = stride;
+    *ask = place.saturating_sub(stride);
     true
 }
 
@@ -71,13 +67,14 @@ fn find_back<'s, 'p, 'a, A: Allocator + Copy, T: Tracker>(
 {
     let to = at.walk.place();
     let stride = lines.stride();
-    let mut left = stride;
+    let mut ask = to.saturating_sub(stride);
     let mut next = 0;
     while at.walk.place() > from {
         step_back(program, at, found, lines)?;
-        let steps = to.saturating_sub(at.walk.place());
-        if is_last_of(stride, &mut left)
-            && (lines.is_full(&mut next, steps, to - from) || found.is_random())
+        let place = at.walk.place();
+        if is_due(place, stride, &mut ask)
+            && (lines.is_full(&mut next, to.saturating_sub(place), to - from)
+                || found.is_random())
         {
             return Ok(());
         }

@@ -1,4 +1,4 @@
-use Rattle.std.proofs.Common.{◌≡◌, ◌<◌, ◌≤◌, ◌++◌, List}
+use Rattle.std.proofs.Common.{◌≡◌, ◌≤◌, ◌++◌, List}
 use Rattle.std.specs.Prelude.{reverse}
 use Rattle.step_model.specs.ErrorModels.{ErrorLine}
 use Rattle.error_models.specs.HeldText.{HoldsLines}
@@ -13,7 +13,6 @@ invariant-loop-at g l =
       store : l.lines.program.now ≡ l.fn.lines.program.now;
       above : l.from ≤ l.at.walk.place;
       below : l.at.walk.place ≤ l.fn.at.walk.place;
-      left : 0 < l.left;
       passed : IsPassed l.program.listing l.at.walk.place (g.T.Tracker.tracked l.at.tracker) l.found;
       stays : Stays l.fn.found l.found;
       lines : (given : List ErrorLine) → HoldsLines l.fn.lines.text given → HoldsLines l.lines.text (given ++ reverse (lines_between l.program.listing l.at.walk.place l.fn.at.walk.place));
