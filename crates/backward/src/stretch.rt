@@ -25,14 +25,14 @@ const POINTS: usize = 60;
 /// A point takes little where there are no more qubits than these.
 const FEW_QUBITS: u32 = 256;
 
-// Where to look next whether the text is full: once in `stride` steps.
+// Whether a place is one at which to ask; the next such is `stride` steps further back.
 #[inline(always)]
-fn next_check(check: usize, place: usize, stride: usize) -> usize {
-    if place <= check {
-        place.saturating_sub(stride)
-    } else {
-        check
+fn is_due(place: usize, stride: usize, ask: &mut usize) -> bool {
+    if place > *ask {
+        return false;
     }
+    *ask = place.saturating_sub(stride);
+    true
 }
 
 /// Goes back to `from`, over one step at least where there is one, until the text of the lines found is full, or some
@@ -67,16 +67,17 @@ fn find_back<'s, 'p, 'a, A: Allocator + Copy, T: Tracker>(
 {
     let to = at.walk.place();
     let stride = lines.stride();
-    let mut check = to.saturating_sub(stride);
+    let mut ask = to.saturating_sub(stride);
     let mut next = 0;
     while at.walk.place() > from {
         step_back(program, at, found, lines)?;
         let place = at.walk.place();
-        let steps = to.saturating_sub(place);
-        if place <= check && (lines.is_full(&mut next, steps, to - from) || found.is_random()) {
+        if is_due(place, stride, &mut ask)
+            && (lines.is_full(&mut next, to.saturating_sub(place), to - from)
+                || found.is_random())
+        {
             return Ok(());
         }
-        check = next_check(check, place, stride);
     }
     Ok(())
 }
