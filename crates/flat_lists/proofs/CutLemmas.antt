@@ -21,7 +21,7 @@ get_or-cut start (end ∷ ends) items zero h = refl
 get_or-cut start (end ∷ ends) items (suc k) h = get_or-cut end ends items k (omega arith)
 
 -- no end is past the count
-start_le_count : (start : ℕ) (ends : List ℕ) (count : ℕ) → AreEnds start ends count → start ≤ count
+pub start_le_count : (start : ℕ) (ends : List ℕ) (count : ℕ) → AreEnds start ends count → start ≤ count
 start_le_count start [] count h = omega arith
 start_le_count start (end ∷ ends) count h = omega (arith, start_le_count end ends count h.1)
 
@@ -38,7 +38,7 @@ AreEnds-push start (next ∷ ends) count end total are le e =
     (are.0, AreEnds-push next ends count end total are.1 le e)
 
 -- a part that ends within the front is a part of the front
-slice_range-append_left : {X : Type 0} → (xs ys : List X) (i j : ℕ) → i ≤ j → j ≤ length xs → slice_range (xs ++ ys) i j ≡ slice_range xs i j
+pub slice_range-append_left : {X : Type 0} → (xs ys : List X) (i j : ℕ) → i ≤ j → j ≤ length xs → slice_range (xs ++ ys) i j ≡ slice_range xs i j
 slice_range-append_left xs ys i j le within =
     let start_within : i ≤ length xs = omega arith in
     let fits : j - i ≤ length (drop i xs) = simp length-drop (omega arith) in

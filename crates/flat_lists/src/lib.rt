@@ -4,6 +4,7 @@
 
 ghost use Rattle.std.specs.Prelude.{◌≡◌, ◌+◌, ◌-◌, ◌<◌, ◌==◌, [], ◌∷◌, ◌++◌, length, take, IfOk, OnOk, OnErr, Some, slice_get, slice_index, slice_index_or};
 
+mod moved_lists;
 mod number_lists;
 mod packed_lists;
 mod rooms;

@@ -148,12 +148,20 @@ fn write_numbers<A: Allocator + Copy>(
     Ok(())
 }
 
+// Takes all numbers out, one by one: they are few, and each takes less than a call.
+#[inline(always)]
+fn empty(found: &mut ArrayVec<i64, MOST_NUMBERS>)
+    ensures { found.new.items ≡ [] }
+{
+    while found.pop().is_some() {}
+}
+
 // Puts the numbers that bytes write in place of what was there.
 fn put_numbers(bytes: &[u8], found: &mut ArrayVec<i64, MOST_NUMBERS>)
     requires { length (numbers_in bytes.now) ≤ MOST_NUMBERS }
     ensures { found.new.items ≡ numbers_in bytes.now }
 {
-    found.clear();
+    empty(found);
     let mut number = 0;
     let mut left = bytes.len();
     while left > 0 {

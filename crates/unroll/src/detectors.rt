@@ -1,4 +1,4 @@
-ghost use Rattle.std.specs.Prelude.{◌≡◌, ◌+◌, ◌-◌, ◌*◌, ◌<◌, ◌≤◌, ◌^◌, ◌++◌, All, None, drop, length, map, slice_range, IfOk, OnOk};
+ghost use Rattle.std.specs.Prelude.{◌≡◌, ◌+◌, ◌-◌, ◌*◌, ◌<◌, ◌^◌, ◌++◌, All, None, drop, IfOk, OnOk};
 ghost use Rattle.stim_parser.specs.Kept.{list_in};
 ghost use Rattle.unroll.specs.private.Detecting.{records_moved};
 ghost use Rattle.unroll.specs.private.Detectors.{detectors_of};
@@ -66,47 +66,9 @@ fn push_detector<A: Allocator + Copy>(
     }
 }
 
-/// Puts the numbers of these records into `moved`, each greater by `by`, in place of what it held.
-fn copy_moved<A: Allocator + Copy>(
-    moved: &mut Vec<u32, A>,
-    records: &[u32],
-    by: u32,
-) -> Result<(), AllocError>
-    requires { All (λ r. r + by < 2 ^ 32) records.now }
-    ensures { OnOk result (moved.new.items ≡ records_moved by records.now) }
-{
-    moved.clear();
-    for record in records {
-        moved.push(*record + by)?;
-    }
-    Ok(())
-}
-
-/// Appends copies of the lists from place `first` up to `end`, with the number of each record greater by `by`.
-fn push_moved<A: Allocator + Copy>(
-    moved: &mut Vec<u32, A>,
-    lists: &mut FlatLists<u32, A>,
-    first: usize,
-    end: usize,
-    by: u32,
-) -> Result<(), AllocError>
-    requires ordered { first ≤ end }
-    requires within { end ≤ length lists.old }
-    requires small { All (All (λ r. r + by < 2 ^ 32)) (slice_range lists.old first end) }
-    ensures { OnOk result
-        (lists.new ≡ lists.old ++ map (records_moved by) (slice_range lists.old first end)) }
-{
-    for k in first..end {
-        copy_moved(moved, lists.get(k), by)?;
-        lists.push(moved.as_slice())?;
-    }
-    Ok(())
-}
-
 /// Appends what this many later turns of a block give. The lists from `first` on are those of its first turn, and each
-/// turn makes `by` records. No turn is gone over where the first gave nothing. Records are gathered in `moved`.
+/// turn makes `by` records. No turn is gone over where the first gave nothing.
 fn push_later_turns<A: Allocator + Copy>(
-    moved: &mut Vec<u32, A>,
     lists: &mut FlatLists<u32, A>,
     first: usize,
     turns: u64,
@@ -123,7 +85,7 @@ fn push_later_turns<A: Allocator + Copy>(
         return Ok(());
     }
     for turn in 0..turns {
-        push_moved(moved, lists, first, end, ((turn + 1) * by) as u32)?;
+        lists.push_moved(first, end, ((turn + 1) * by) as u32)?;
     }
     Ok(())
 }
@@ -168,7 +130,7 @@ pub(crate) fn detectors_of<A: Allocator + Copy>(
                 let block = blocks.pop().unwrap();
                 let later = block.turns.saturating_sub(1);
                 let by = records.saturating_sub(block.before.place);
-                push_later_turns(&mut room, &mut detectors, block.before.found, later, by)?;
+                push_later_turns(&mut detectors, block.before.found, later, by)?;
                 records = records_behind(records, later, by);
             }
         }
