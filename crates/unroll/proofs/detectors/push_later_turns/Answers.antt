@@ -36,4 +36,4 @@ loop-turn-preserved g c =
     let move : ℕ → List ℕ → List ℕ = λ n. records_moved (n * c.args.by) in
     let part = part-now start c.loop-turn.lists (later move turn given) c.args.first c.len-end.result c.loop-turn.invariant (omega arith) c.len-end.ensures in
     turns-more move start c.loop-turn.lists c.push_moved.new.self given turn c.loop-turn.invariant
-    (c.in_ok-push_moved.ensures ∙ ap (λ (xs : List (List ℕ)). c.loop-turn.lists ++ map (move (turn + 1)) xs) part)
+    (c.in_ok-push_moved.ensures.ok ∙ ap (λ (xs : List (List ℕ)). c.loop-turn.lists ++ map (move (turn + 1)) xs) part)
