@@ -1,5 +1,5 @@
 //! The text of a stretch of a program's steps, whose memory doesn't grow with the text.
-ghost use Rattle.std.specs.Prelude.{◌≡◌, ◌<◌, ◌≤◌, ◌++◌, [], ℕ, List, reverse, true, IfOk, OnOk, OnErr};
+ghost use Rattle.std.specs.Prelude.{◌≡◌, ◌<◌, ◌≤◌, ◌⊎◌, ◌++◌, [], ℕ, List, reverse, true, false, IfOk, OnOk, OnErr};
 ghost use Rattle.step_model.specs.ErrorModels.{ErrorLine};
 ghost use Rattle.error_models.specs.HeldText.{HoldsLines};
 ghost use Rattle.streams.specs.Pushed.{Pushes};
@@ -25,13 +25,28 @@ const POINTS: usize = 60;
 /// A point takes little where there are no more qubits than these.
 const FEW_QUBITS: u32 = 256;
 
-// Whether a place is one at which to ask; the next such is `stride` steps further back.
-#[inline(always)]
-fn is_due(place: usize, stride: usize, ask: &mut usize) -> bool {
-    if place > *ask {
+// Whether to go on back from a place: not at `from`, nor where the text is full or some target is known to be random, which
+// is asked once a step is gone over. Says at which place to ask again.
+#[inline(never)]
+fn goes_on<'s, 'a, A: Allocator + Copy>(
+    lines: &TextStore<'_, 'a, A>,
+    found: &Found<'s, A>,
+    from: usize,
+    to: usize,
+    place: usize,
+    ask: &mut usize,
+    next: &mut usize,
+) -> bool
+    ensures on { result ≡ true → (from < place) × (from ≤ ask.new) }
+    ensures off { result ≡ false → (place ≤ from) ⊎ (place < to) }
+{
+    if place <= from {
         return false;
     }
-    *ask = place.saturating_sub(stride);
+    if place < to && (lines.is_full(next, to - place, to - from) || found.is_random()) {
+        return false;
+    }
+    *ask = place.saturating_sub(lines.stride()).max(from);
     true
 }
 
@@ -66,18 +81,12 @@ fn find_back<'s, 'p, 'a, A: Allocator + Copy, T: Tracker>(
     ensures store { lines.new.program.now ≡ lines.old.program.now }
 {
     let to = at.walk.place();
-    let stride = lines.stride();
-    let mut ask = to.saturating_sub(stride);
+    let mut ask = to;
     let mut next = 0;
-    while at.walk.place() > from {
+    while at.walk.place() > ask
+        || goes_on(lines, found, from, to, at.walk.place(), &mut ask, &mut next)
+    {
         step_back(program, at, found, lines)?;
-        let place = at.walk.place();
-        if is_due(place, stride, &mut ask)
-            && (lines.is_full(&mut next, to.saturating_sub(place), to - from)
-                || found.is_random())
-        {
-            return Ok(());
-        }
     }
     Ok(())
 }
