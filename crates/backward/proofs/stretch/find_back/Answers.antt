@@ -30,10 +30,10 @@ loop-ask-init g c =
 -- a step is gone back over only behind the start, and the next place at which to ask isn't before that
 goes : (g : Over) (c : In_ok-step_back g) → (c.args.from < c.loop-ask.at.walk.place) × (c.args.from ≤ c.if-place-ask.ask)
 goes g c = elim c.if-place-ask.branch [
-    then-place-ask w ↦ (
-      omega (arith, w.if-place-ask.true, c.place.ensures, c.loop-ask.invariant.asks),
-      omega (arith, w.ask-is, c.loop-ask.invariant.asks),
-    )
+  | then-place-ask w ↦ (
+    omega (arith, w.if-place-ask.true, c.place.ensures, c.loop-ask.invariant.asks),
+    omega (arith, w.ask-is, c.loop-ask.invariant.asks),
+  )
   | else-place-ask+then-goes_on w ↦
       let on = w.goes_on.ensures.on w.if-goes_on.true in (
         omega (arith, on.0, w.place-else-place-ask.ensures),
