@@ -2,6 +2,7 @@ mod calls;
 mod circuits;
 mod differences;
 mod drawn;
+mod same;
 mod sweeps;
 mod tables;
 mod words;

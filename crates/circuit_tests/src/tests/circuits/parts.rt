@@ -65,7 +65,7 @@ fn written(
 fn calls_of(alloc: Global, program: &Program<'_, Global>, room: usize, text: &[u8]) -> Option<u64> {
     let (answer, sink) = written(alloc, program, room, 0);
     let device = sink.writer();
-    let is_whole = answer == Ok(None) && device.taken() == text;
+    let is_whole = matches!(answer, Ok(None)) && device.taken() == text;
     is_whole.then_some(device.calls())
 }
 
@@ -79,7 +79,8 @@ fn stops_at(
 ) -> bool {
     let (answer, sink) = written(alloc, program, room, call);
     let device = sink.writer();
-    answer == Err(Fault::WRITE) && device.calls() == call && text.starts_with(device.taken())
+    let told = matches!(answer, Err(fault) if fault == Fault::WRITE);
+    told && device.calls() == call && text.starts_with(device.taken())
 }
 
 /// The first call at which it doesn't stop; 0, where the whole text doesn't go out in more than four calls. The first three calls

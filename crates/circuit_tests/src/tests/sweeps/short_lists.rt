@@ -7,20 +7,31 @@ use stim_parser::{Number, ShortTarget, Target, Targets};
 
 /// A star, and the record that lies so far back. Every third list of such has a record too far back for a short form.
 fn star_and_record(n: u32) -> [Target; 2] {
+    [Target::Star, Target::Back(Number::new(back_of(n)))]
+}
+
+fn back_of(n: u32) -> u64 {
     let far = if n % 3 == 1 { 1 << 16 } else { 0 };
-    [Target::Star, Target::Back(Number::new(n as u64 + far))]
+    n as u64 + far
 }
 
 /// Whether these are the two targets.
 fn is_star_and_record(list: Targets<'_>, n: u32) -> bool {
-    let [star, record] = star_and_record(n);
     let Some((first, rest)) = list.split_first() else {
         return false;
     };
     let Some((second, others)) = rest.split_first() else {
         return false;
     };
-    first == star && second == record && others.is_empty()
+    is_star(first) && is_back(second, back_of(n)) && others.is_empty()
+}
+
+fn is_star(target: Target) -> bool {
+    matches!(target, Target::Star)
+}
+
+fn is_back(target: Target, back: u64) -> bool {
+    matches!(target, Target::Back(k) if k.value() == back)
 }
 
 /// Whether these are so many of those lists.
