@@ -2,7 +2,6 @@ mod calls;
 mod circuits;
 mod differences;
 mod drawn;
-mod same;
 mod sweeps;
 mod tables;
 mod words;

@@ -50,14 +50,14 @@ pub enum TextStep {
 }
 
 /// A fault's number, and the number of what is kept of it.
-#[derive(Clone, Copy)]
+#[derive(Clone, Copy, PartialEq, Eq)]
 pub struct FaultName {
     pub number: u32,
     pub entry: u32,
 }
 
 /// One step of a program. Qubits, records, faults and products are numbered from 0.
-#[derive(Clone, Copy)]
+#[derive(Clone, Copy, PartialEq, Eq)]
 pub enum Step {
     One {
         gate: Gate,

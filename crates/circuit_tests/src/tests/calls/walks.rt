@@ -1,5 +1,4 @@
 //! The walk over small circuits, step by step against lists that were written out by hand.
-use crate::tests::same::is_same_step;
 use crate::tests::tables::parts_of;
 use gate_table::Gate;
 use pauli_word::Letter;
@@ -105,13 +104,11 @@ fn steps_of(alloc: Global, words: &str) -> Result<Vec<Step>, AllocError> {
 }
 
 fn goes_forth(walk: &mut Walk<'_, '_, Global>, step: &Step) -> bool {
-    walk.next_step()
-        .is_some_and(|next| is_same_step(next, *step))
+    walk.next_step() == Some(*step)
 }
 
 fn goes_back(walk: &mut Walk<'_, '_, Global>, step: &Step) -> bool {
-    walk.previous_step()
-        .is_some_and(|previous| is_same_step(previous, *step))
+    walk.previous_step() == Some(*step)
 }
 
 // Goes over each step forth, back and forth again, and then back to the start.

@@ -1,7 +1,6 @@
 //! Analyses as the table has them, by both trackers, and the coin pairs of its random targets.
 
 use crate::tests::differences::differences;
-use crate::tests::same::is_same_place;
 use crate::tests::tables::are_coins;
 use crate::tests::words::{by_dense, by_sparse};
 use backward::Analysed;
@@ -156,7 +155,7 @@ fn has_place(
     if target >= program.target_count() {
         return Ok(false);
     }
-    Ok(place_of(alloc, program, target)?.is_some_and(|found| is_same_place(found, place)))
+    Ok(place_of(alloc, program, target)? == Some(place))
 }
 
 fn differs(

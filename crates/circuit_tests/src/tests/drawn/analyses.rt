@@ -5,7 +5,6 @@ use super::models::model_holds;
 use super::parts::parts_hold;
 use super::randoms::random_holds;
 use super::{Finding, Tally};
-use crate::tests::same::is_same_random;
 use crate::tests::words::{by_dense, by_sparse};
 use backward::Analysed;
 use programs::Program;
@@ -23,7 +22,7 @@ pub(super) fn finding_of(
 ) -> Result<Finding, Fault> {
     let sparse = random_by_sparse(&alloc, program)?;
     let analysed = by_dense(alloc, program)?;
-    if !is_same_random(random_of(&analysed), sparse) {
+    if random_of(&analysed) != sparse {
         return Ok(Finding::Wrong("the trackers differ"));
     }
     if !parts_hold(alloc, program, &analysed)? {

@@ -1,6 +1,5 @@
 //! The analysis of a drawn text's program that is written in parts, by both trackers.
 
-use crate::tests::same::is_same_random;
 use crate::tests::words::{dense_words, sparse_words};
 use backward::{Analysed, write_in_parts};
 use error_models::Model;
@@ -64,7 +63,7 @@ fn writes_by_sparse(
     };
     let mut sink = MemorySink::new(alloc);
     let answer = write_in_parts(alloc, program, words, room, &mut sink)?;
-    Ok(is_same_random(answer, random) && sink.bytes() == text)
+    Ok(answer == random && sink.bytes() == text)
 }
 
 fn writes_by_dense(
@@ -79,5 +78,5 @@ fn writes_by_dense(
     };
     let mut sink = MemorySink::new(alloc);
     let answer = write_in_parts(alloc, program, words, room, &mut sink)?;
-    Ok(is_same_random(answer, random) && sink.bytes() == text)
+    Ok(answer == random && sink.bytes() == text)
 }
