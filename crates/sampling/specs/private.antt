@@ -1,3 +1,4 @@
 pub mod LaneLines
+pub mod Octets
 pub mod ShownRuns
 pub mod WritesShots

@@ -16,17 +16,18 @@ use std::alloc::Allocator;
 use step_model::{Fault, Sink};
 use streams::Pieces;
 
-/// Writes the lines of the first `shots` shots of a seed. `line` has room for one line. It takes no memory, and fails
-/// only where the sink fails; a beginning of the text has then gone out, and the sink is not called again.
+/// Writes the lines of the first `shots` shots of a seed. `room` is for a byte of each truth value, and then for a line. It
+/// takes no memory, and fails only where the sink fails; a beginning of the text has then gone out, and the sink is not called
+/// again.
 pub(crate) fn write_batches<W: Sink, A: Allocator + Copy>(
     drawn: &mut Shots<A>,
     runs: &mut SideRuns<'_, '_, A>,
-    line: &mut [u8],
+    room: &mut [u8],
     shots: u64,
     seed: u64,
     sink: &mut W,
 ) -> Result<(), Fault>
-    requires { FitTogether drawn.old runs.old line.old }
+    requires { FitTogether drawn.old runs.old room.old }
     ensures all { OnOk result
         (Takes (W.taken sink.old) (W.taken sink.new)
         (shots_text (shown_line runs.old.shown) shots seed runs.old.program)) }
@@ -38,7 +39,7 @@ pub(crate) fn write_batches<W: Sink, A: Allocator + Copy>(
 {
     let mut rng = Pcg64::seed_from_u64(seed);
     let mut out = Pieces::new();
-    push_shots(&mut out, sink, drawn, runs, line, shots, &mut rng);
+    push_shots(&mut out, sink, drawn, runs, room, shots, &mut rng);
     out.finish(sink)
 }
 
@@ -47,11 +48,11 @@ fn push_shots<W: Sink, A: Allocator + Copy>(
     sink: &mut W,
     drawn: &mut Shots<A>,
     runs: &mut SideRuns<'_, '_, A>,
-    line: &mut [u8],
+    room: &mut [u8],
     shots: u64,
     rng: &mut Pcg64,
 )
-    requires { FitTogether drawn.old runs.old line.old }
+    requires { FitTogether drawn.old runs.old room.old }
     ensures { Pushes W.taken W.failures sink.old sink.new out.old out.new
         (lines_from (shown_line runs.old.shown) runs.old.program shots rng.old) }
 {
@@ -62,7 +63,7 @@ fn push_shots<W: Sink, A: Allocator + Copy>(
             return;
         }
         let count = next_count(left);
-        push_batch(out, sink, drawn, runs, line, count, rng);
+        push_batch(out, sink, drawn, runs, room, count, rng);
         left -= u64::from(count);
     }
 }
@@ -83,11 +84,11 @@ fn push_batch<W: Sink, A: Allocator + Copy>(
     sink: &mut W,
     drawn: &mut Shots<A>,
     runs: &mut SideRuns<'_, '_, A>,
-    line: &mut [u8],
+    room: &mut [u8],
     count: u32,
     rng: &mut Pcg64,
 )
-    requires fit { FitTogether drawn.old runs.old line.old }
+    requires fit { FitTogether drawn.old runs.old room.old }
     requires count { count ≤ 64 }
     ensures lines { Pushes W.taken W.failures sink.old sink.new out.old out.new
         (lines_from (shown_line runs.old.shown) runs.old.program count rng.old) }
@@ -95,9 +96,9 @@ fn push_batch<W: Sink, A: Allocator + Copy>(
     ensures program { runs.new.program ≡ runs.old.program }
     ensures shown { runs.new.shown ≡ runs.old.shown }
     ensures passed { drawn.new.passed ≡ drawn.old.passed }
-    ensures fit { FitTogether drawn.new runs.new line.new }
+    ensures fit { FitTogether drawn.new runs.new room.new }
 {
     drawn.draw(count, rng);
     runs.run(drawn.faults(), drawn.coins());
-    push_lines(out, sink, line, runs.words(), count);
+    push_lines(out, sink, room, runs.words(), count);
 }

@@ -1,5 +1,5 @@
 //! Drawn shots of a program, a line each.
-ghost use Rattle.std.specs.Prelude.{◌≡◌, ◌⊎◌, ◌+◌, length, replicate, IfOk, IfErr, OnOk, OnErr};
+ghost use Rattle.std.specs.Prelude.{◌≡◌, ◌⊎◌, ◌+◌, ◌*◌, length, replicate, IfOk, IfErr, OnOk, OnErr};
 ghost use Rattle.step_model.specs.Ends.{Takes, TakesSome, write_failures};
 ghost use Rattle.step_model.specs.Faults.{memory_fault, write_fault};
 ghost use Rattle.forward_sim.specs.Drawn.{bounds_of};
@@ -77,16 +77,14 @@ fn write_drawn<W: Sink, A: Allocator + Copy>(
         (shots_text (shown_line shown) shots seed program.now.listing) result }
 {
     let mut words = vec![in alloc; 0u64; count(program, shown)]?;
-    let mut line = room_for(alloc, &words)?;
+    let mut room = room_for(alloc, &words)?;
     let mut runs = SideRuns::new(program, batch, shown, &mut words);
-    write_batches(drawn, &mut runs, &mut line, shots, seed, sink)
+    write_batches(drawn, &mut runs, &mut room, shots, seed, sink)
 }
 
-// A line with a digit for each of these words, and its line feed.
+// Room for a byte of each of these words, and for a line with a digit for each.
 fn room_for<A: Allocator + Copy>(alloc: A, words: &[u64]) -> Result<Vec<u8, A>, AllocError>
-    ensures { IfOk result (λ line. length line.items ≡ length words.now + 1) }
+    ensures { IfOk result (λ room. length room.items ≡ 2 * length words.now + 1) }
 {
-    let mut line = vec![in alloc; b'0'; words.len()]?;
-    line.push(b'\n')?;
-    Ok(line)
+    vec![in alloc; b'0'; 2 * words.len() + 1]
 }

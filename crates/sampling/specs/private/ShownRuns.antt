@@ -1,6 +1,6 @@
 -- 64 runs of a program side by side, and what is shown of them.
 -- (This project's own.)
-use Rattle.std.specs.Prelude.{◌≡◌, ℕ, ◌+◌, Bool, List, [], length}
+use Rattle.std.specs.Prelude.{◌≡◌, ℕ, ◌+◌, ◌*◌, Bool, List, [], length}
 use Rattle.step_model.specs.Frames.{zero_coins}
 use Rattle.step_model.specs.Listing.{Listing}
 use Rattle.step_model.specs.Runs.{records_of}
@@ -17,12 +17,12 @@ pub record ShownRuns : Type 0 where
   pub shown : Shown
   pub words : List ℕ
 
--- drawn shots are of the program of runs, and coins that they pass over don't count; there is room for a line
+-- drawn shots are of the program of runs, and coins that they pass over don't count; there is room for a byte of each word and a line
 pub record FitTogether (drawn : ShotWords) (runs : ShownRuns) (room : List ℕ) : Type 0 where
   pub bounds : drawn.bounds ≡ bounds_of runs.program
   pub coins : length drawn.coins ≡ runs.program.collapses
   pub passed : DontCount runs.program drawn.passed
-  pub line : length room ≡ length runs.words + 1
+  pub line : length room ≡ 2 * length runs.words + 1
 
 -- how many truth values are shown of a run
 abbrev pub shown_count : Shown → Listing → ℕ

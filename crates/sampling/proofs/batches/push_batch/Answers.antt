@@ -1,5 +1,5 @@
 -- Drawn, run and written.
-use Rattle.std.proofs.Common.{◌≡◌, ◌+◌, length, sym, ap, ap₂, subst, subst₂, ◌∙◌}
+use Rattle.std.proofs.Common.{◌≡◌, ◌+◌, ◌*◌, length, sym, ap, ap₂, subst, subst₂, ◌∙◌}
 use Rattle.std.proofs.lemmas.List.{length-map}
 use Rattle.step_model.specs.Listing.{ListedFault, Listing}
 use Rattle.forward_sim.specs.Drawn.{bounds_of, after_shots}
@@ -29,7 +29,7 @@ run-requires g c =
 pub push_lines-requires : goal.push_lines-requires
 push_lines-requires g c =
     record {
-      room = c.requires.fit.line ∙ ap (λ n. n + 1) (sym c.run.ensures.size ∙ sym (ap length c.words.ensures));
+      room = c.requires.fit.line ∙ ap (λ n. 2 * n + 1) (sym c.run.ensures.size ∙ sym (ap length c.words.ensures));
       count = c.requires.count;
     }
 
@@ -55,7 +55,7 @@ returns g c =
     drawn_line passed shown program count j rng faults coins words c.requires.count below drawn c.requires.fit.passed
     (λ i lane_below. c.run.ensures.lanes i lane_below ∙ ap₂ (λ fs cs. shown_of shown program (lane i fs) (lane i cs)) c.faults.ensures c.coins.ensures)) in
     record {
-      lines = subst (λ bytes. Pushes g.W.Sink.taken g.W.Sink.failures c.args.sink.now c.push_lines.new.sink c.args.out.now c.push_lines.new.out bytes) text c.push_lines.ensures.lines;
+      lines = subst (λ bytes. Pushes g.W.Sink.taken g.W.Sink.failures c.args.sink.now c.push_lines.new.sink c.args.out.now c.push_lines.new.out bytes) text c.push_lines.ensures;
       taken = c.draw.ensures.taken ∙ ap₂ (λ a b. after_shots a b count rng) n c.requires.fit.coins;
       program = c.run.ensures.program;
       shown = c.run.ensures.shown;
@@ -64,6 +64,6 @@ returns g c =
         bounds = c.draw.ensures.bounds ∙ (c.requires.fit.bounds ∙ ap bounds_of (sym c.run.ensures.program));
         coins = c.draw.ensures.drawn.coin_count ∙ (c.requires.fit.coins ∙ ap (λ (p : Listing). p.collapses) (sym c.run.ensures.program));
         passed = subst₂ DontCount (sym c.run.ensures.program) (sym c.draw.ensures.passed) c.requires.fit.passed;
-        line = c.push_lines.ensures.room ∙ (c.requires.fit.line ∙ ap (λ n. n + 1) (sym c.run.ensures.size));
+        line = c.push_lines.auto.room ∙ (c.requires.fit.line ∙ ap (λ n. 2 * n + 1) (sym c.run.ensures.size));
       };
     }

@@ -13,7 +13,7 @@ invariant-loop-left g l =
       within : l.left ≤ l.shots;
       same : l.runs.program ≡ program;
       shown : l.runs.shown ≡ l.fn.runs.shown;
-      fit : FitTogether l.drawn l.runs l.line;
+      fit : FitTogether l.drawn l.runs l.room;
       lines : Pushes g.W.Sink.taken g.W.Sink.failures l.fn.sink l.sink l.fn.out l.out (lines_from (shown_line l.fn.runs.shown) program (l.shots - l.left) l.fn.rng);
       taken : l.rng ≡ shot_generator program l.fn.rng (l.shots - l.left);
     }

@@ -6,6 +6,6 @@ use Rattle.sampling.proofs.lines.fill_line.Given as goal
 abbrev pub invariant-loop-index : goal.invariant-loop-index
 invariant-loop-index l =
     record {
-      room : length l.line ≡ length l.words + 1;
-      digits : take l.index l.line ≡ digits l.shot (take l.index l.words);
+      room : length l.line ≡ length l.octets + 1;
+      digits : take l.index l.line ≡ digits l.shot (take l.index l.octets);
     }

@@ -10,10 +10,10 @@ returns-in_err-words g c =
     no_memory g.W.Sink.taken g.W.Sink.failures (shots_text (shown_line c.args.shown) c.args.shots c.args.seed c.args.program.now.listing) c.args.sink.now
     c.from_residual.result c.from_residual.ensures.1
 
-pub returns-in_err-line : goal.returns-in_err-line
-returns-in_err-line g c =
+pub returns-in_err-room : goal.returns-in_err-room
+returns-in_err-room g c =
     no_memory g.W.Sink.taken g.W.Sink.failures (shots_text (shown_line c.args.shown) c.args.shots c.args.seed c.args.program.now.listing) c.args.sink.now
-    c.from_residual-in_err-line.result c.from_residual-in_err-line.ensures.1
+    c.from_residual-in_err-room.result c.from_residual-in_err-room.ensures.1
 
 pub returns : goal.returns
 returns g c =
