@@ -33,12 +33,6 @@ pub drop_star : (fs : List (List ℕ)) → drop 1 (starred fs) ≡ joined fs
 drop_star [] = refl
 drop_star (f ∷ fs) = refl
 
--- what was written tells whether there is none
-pub none_where_nothing : (first : Bool) (fs : List (List ℕ)) → starred fs ≡ [] → first ≡ (first && is_none fs)
-none_where_nothing true [] h = refl
-none_where_nothing true (f ∷ fs) h = absurd (cc)
-none_where_nothing false fs h = refl
-
 pub nothing_joined : (first : Bool) (fs : List (List ℕ)) → starred fs ≡ [] → [] ≡ joined_on first fs
 nothing_joined true [] h = refl
 nothing_joined true (f ∷ fs) h = absurd (cc)

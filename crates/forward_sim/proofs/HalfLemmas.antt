@@ -1,7 +1,7 @@
 -- Shots side by side in two halves, which are drawn in step: none of them, one more in each half, and all.
-use Rattle.std.proofs.Common.{◌≡◌, ℕ, ◌+◌, ◌*◌, ◌<◌, ◌≤◌, List, length, replicate, sym, ap, ◌∙◌, arith, subst, ⊎_elim}
+use Rattle.std.proofs.Common.{◌≡◌, ℕ, ◌+◌, ◌<◌, ◌≤◌, List, length, replicate, sym, ap, ◌∙◌, arith, subst, ⊎_elim}
 use Rattle.std.specs.Prelude.{◌≢◌, false}
-use Rattle.std.proofs.lemmas.Bool.{cases_eq, cases_lt}
+use Rattle.std.proofs.lemmas.Bool.{cases_eq}
 use Rattle.std.proofs.lemmas.List.{length-replicate}
 use Rattle.rand_pcg.specs.Lcg.{Lcg}
 use Rattle.forward_sim.specs.declared.span.Span.{Span}
@@ -9,7 +9,7 @@ use Rattle.bit_rows.specs.Lanes.{lane}
 use Rattle.forward_sim.specs.Drawn.{after_words, drawn_faults, after_shots}
 use Rattle.forward_sim.specs.private.LaneDraws.{coin_hits, fault_hits}
 use Rattle.forward_sim.specs.private.PairDraws.{DrawsIntoBoth}
-use Rattle.forward_sim.specs.Shots.{AreDrawn, tossed_coins}
+use Rattle.forward_sim.specs.Shots.{tossed_coins}
 use Rattle.forward_sim.proofs.LaneLemmas.{lane_blank}
 use Rattle.forward_sim.proofs.PairLemmas.{first_drawn, second_drawn, both_kept}
 
@@ -100,23 +100,4 @@ one_more_each passed bounds collapses half k g faults faults_then coins coins_th
       behind = λ l h m.
           let was = so_far.behind l (omega arith) m in
           record { faults = kept l (λ e. omega arith) (λ e. omega arith) ∙ was.faults; coins = kept_coins l (λ e. omega arith) (λ e. omega arith) ∙ was.coins };
-    }
-
--- halves that are whole
-pub halves_drawn : (passed : Span) (bounds : List ℕ) (collapses half k : ℕ) (g : Lcg) (faults coins : List ℕ) → half ≡ k
-    → HalvesDrawn passed bounds collapses half k g faults coins → AreDrawn passed bounds collapses (2 * half) g faults coins
-halves_drawn passed bounds collapses half k g faults coins whole drawn =
-    let shot : (l : ℕ) → l < 2 * half → HasShot passed bounds collapses g faults coins l =
-    λ l h.
-    ⊎_elim
-    (λ (m : l < half). drawn.first l (omega arith))
-    (λ (m : half ≤ l). drawn.second l m (omega arith))
-    (cases_lt l half) in
-    record {
-      fault_count = drawn.fault_count;
-      coin_count = drawn.coin_count;
-      faults = λ l h. (shot l h).faults;
-      coins = λ l h. (shot l h).coins;
-      idle_faults = λ l h m. (drawn.behind l (omega arith) m).faults;
-      idle_coins = λ l h m. (drawn.behind l (omega arith) m).coins;
     }

@@ -3,7 +3,7 @@ use Rattle.std.proofs.Common.{◌≡◌, ℕ, ◌<◌, length, refl, sym, ap, ap
 use Rattle.std.proofs.lemmas.List.{set-get_or}
 use Rattle.gate_table.specs.declared.gate.Gate.{Gate}
 use Rattle.gate_table.specs.declared.gate.Gate.TheVariants as gate
-use Rattle.gate_table.specs.Images.{image1, inverse_of, arity_of}
+use Rattle.gate_table.specs.Images.{image1, inverse_of}
 use Rattle.gate_table.specs.WordImages.{preimage_at}
 use Rattle.pauli_word.specs.declared.letter.Letter.{Letter}
 use Rattle.pauli_word.specs.declared.letter.Letter.TheVariants.{I, X, Y, Z}
@@ -20,12 +20,6 @@ gate_of I = gate.I
 gate_of X = gate.X
 gate_of Y = gate.Y
 gate_of Z = gate.Z
-
-pub arity_of-letter : (l : Letter) → arity_of (gate_of l) ≡ 1
-arity_of-letter I = refl
-arity_of-letter X = refl
-arity_of-letter Y = refl
-arity_of-letter Z = refl
 
 image : (l a : Letter) → image1 (inverse_of (gate_of l)) a ≡ (a, letters_clash l a)
 image I I = refl

@@ -1,5 +1,5 @@
 -- A word's list of numbers is read again as the qubits with X and those with Z.
-use Rattle.std.proofs.Common.{◌≡◌, ℕ, zero, suc, ◌-◌, ◌<◌, ◌≤◌, List, [], ◌∷◌, ◌++◌, length, set, get_or, take, drop, None, Some, refl, sym, ap, ap₂, ◌∙◌, arith}
+use Rattle.std.proofs.Common.{◌≡◌, ℕ, zero, suc, ◌-◌, ◌≤◌, List, [], ◌∷◌, ◌++◌, length, set, get_or, take, drop, Some, refl, sym, ap, ap₂, ◌∙◌, arith}
 use Rattle.std.specs.Prelude.{min}
 use Rattle.std.proofs.lemmas.List.{drop_at, drop_min, length-take-le, take_all, take_at, take_min, take_rest}
 use Rattle.forward_sim.specs.References.{entry_of, terms_with}
@@ -17,16 +17,6 @@ listed_parts (n ∷ ns) (m ∷ ms) end k xs zs e within some is =
     let inside : k ≤ length ms = omega (arith, e, within) in
     let rest : take k ms ≡ xs = ap (drop 1) (ap (λ i. take i (m ∷ ms)) (sym e) ∙ is) in
     ap (λ i. terms_listed (take i (k ∷ ms) ++ zs)) e ∙ parts_listed ms xs zs k inside rest
-
--- a list of one number or none stands for no word
-no_part : (count : ℕ) → terms_with (take count []) (drop count []) ≡ []
-no_part zero = refl
-no_part (suc count) = refl
-
-pub short_listed : (list : List ℕ) → length list < 2 → None ≡ entry_of (terms_listed list)
-short_listed [] h = refl
-short_listed (count ∷ []) h = ap entry_of (sym (no_part count))
-short_listed (count ∷ q ∷ qubits) h = absurd (omega (arith, h))
 
 -- and a longer one for a word
 some_part : (count q : ℕ) (qubits : List ℕ) → Some (terms_with (take count (q ∷ qubits)) (drop count (q ∷ qubits))) ≡ entry_of (terms_with (take count (q ∷ qubits)) (drop count (q ∷ qubits)))

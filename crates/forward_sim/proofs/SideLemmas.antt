@@ -1,7 +1,6 @@
 -- Shots side by side: none of them, and one more.
-use Rattle.std.proofs.Common.{◌≡◌, ℕ, suc, ◌+◌, ◌-◌, ◌*◌, ◌<◌, ◌≤◌, List, length, replicate, sym, ap, ◌∙◌, arith, subst, ⊎_elim}
+use Rattle.std.proofs.Common.{◌≡◌, ℕ, suc, ◌+◌, ◌-◌, ◌*◌, ◌<◌, List, length, sym, ap, ◌∙◌, arith, subst, ⊎_elim}
 use Rattle.std.proofs.lemmas.Bool.{cases_eq}
-use Rattle.std.proofs.lemmas.List.{length-replicate}
 use Rattle.std.proofs.Math.Nat.{suc-mul}
 use Rattle.rand_pcg.specs.Lcg.{Lcg}
 use Rattle.forward_sim.specs.declared.span.Span.{Span}
@@ -10,19 +9,7 @@ use Rattle.forward_sim.specs.Drawn.{after_words, drawn_faults, after_shots}
 use Rattle.forward_sim.specs.private.LaneDraws.{DrawsInto, coin_hits, fault_hits}
 use Rattle.forward_sim.specs.Shots.{AreDrawn, tossed_coins}
 use Rattle.forward_sim.proofs.WordLemmas.{after_words-none, after_words-add}
-use Rattle.forward_sim.proofs.LaneLemmas.{lane_drawn, lane_kept, lane_blank}
-
-pub none_drawn : (passed : Span) (bounds : List ℕ) (faults collapses : ℕ) (g : Lcg) → faults ≡ length bounds
-    → AreDrawn passed bounds collapses 0 g (replicate faults 0) (replicate collapses 0)
-none_drawn passed bounds faults collapses g same =
-    record {
-      fault_count = length-replicate faults 0 ∙ same;
-      coin_count = length-replicate collapses 0;
-      faults = λ j h. absurd (omega arith);
-      coins = λ j h. absurd (omega arith);
-      idle_faults = λ j h l. ap (λ n. lane j (replicate n 0)) same ∙ lane_blank j (length bounds);
-      idle_coins = λ j h l. lane_blank j collapses;
-    }
+use Rattle.forward_sim.proofs.LaneLemmas.{lane_drawn, lane_kept}
 
 pub one_more_drawn : (passed : Span) (bounds : List ℕ) (collapses k : ℕ) (g : Lcg) (faults faults_then coins coins_then : List ℕ) → k < 64
     → AreDrawn passed bounds collapses k g faults coins

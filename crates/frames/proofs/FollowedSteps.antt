@@ -1,21 +1,20 @@
 -- The frame behind a step, as the loops over lanes make it.
 use Rattle.std.proofs.lemmas.List as lists
-use Rattle.std.proofs.Common.{set, ◌≡◌, ℕ, Bool, true, false, List, [], ◌∷◌, ◌++◌, length, append-nil, Option, None, Some, is_some, refl, sym, ap, ap₂, ◌∙◌}
-use Rattle.std.specs.Prelude.{if◌then◌else◌, option_map}
+use Rattle.std.proofs.Common.{set, ◌≡◌, ℕ, Bool, true, false, List, [], length, Option, None, Some, is_some, refl, sym, ap, ◌∙◌}
+use Rattle.std.specs.Prelude.{if◌then◌else◌}
 use Rattle.bit_rows.specs.Lanes.{lane_bit}
 use Rattle.pauli_word.specs.declared.letter.Letter.{Letter}
 use Rattle.pauli_word.specs.declared.letter.Letter.TheVariants.{I}
 use Rattle.pauli_word.specs.Parity.{exclusive_or}
 use Rattle.pauli_word.specs.Words.{anticommute, lone_letter}
 use Rattle.programs.specs.declared.step.FaultName.{FaultName}
-use Rattle.programs.specs.Listed.{measured, number_of, recorded}
+use Rattle.programs.specs.Listed.{measured, recorded}
 use Rattle.step_model.specs.declared.step.Term.{Term}
 use Rattle.step_model.specs.Frames.{Frame}
-use Rattle.step_model.specs.Listing.{Listing, Collapse, Measured, measured_word, step_records}
+use Rattle.step_model.specs.Listing.{Collapse, Measured, measured_word, step_records}
 use Rattle.step_model.specs.Runs.{flip_happens}
-use Rattle.step_model.specs.Sensitivities.{cleared}
-use Rattle.frames.specs.private.Followed.{Turns, flips_in, followed, reset_in, turned, turned_in, turned_where}
-use Rattle.frames.specs.LaneFrames.{LaneFrames, frame_in, GoesTo, with_record}
+use Rattle.frames.specs.private.Followed.{Turns, flips_in, reset_in, turned, turned_in, turned_where}
+use Rattle.frames.specs.LaneFrames.{LaneFrames, frame_in, GoesTo}
 use Rattle.frames.specs.LaneLetters.{word_in}
 use Rattle.frames.proofs.FollowLaw.{turned-flip}
 use Rattle.frames.proofs.LaneFrameLaws.{frame_with, goes_as, goes_then, length-word_in}
@@ -42,23 +41,6 @@ measured-letter n false letter q = refl
 none-happens : (flip : Option ℕ) → flip_happens [] flip ≡ false
 none-happens None = refl
 none-happens (Some f) = refl
-
--- a collapse with its record
-pub followed-collapse : (program : Listing) (faults : List Bool) (replaced : Option (List Term)) (coin : Bool) (c : Measured) (rec : Option ℕ) (inverted : Bool) (flip : Option FaultName) (w : List Letter) (v : Frame) (b : Bool)
-    → measured_word program.qubits c ≡ w
-    → b ≡ exclusive_or (anticommute (turned program.qubits replaced coin w v).word w) (flip_happens faults (option_map number_of flip))
-    → with_record rec b (frame_with (cleared c (turned program.qubits replaced coin w v).word) v.records) ≡ followed program faults replaced coin (Collapse c (recorded rec inverted flip)) v
-followed-collapse program faults replaced coin c None inverted flip w v b is flips =
-    let n = program.qubits in
-    ap (λ x. frame_with (cleared c (turned n replaced coin x v).word) v.records) (sym is)
-    ∙ ap (frame_with (cleared c (turned n replaced coin (measured_word n c) v).word))
-    (sym (turned-records n replaced _ v) ∙ sym (append-nil (turned n replaced coin (measured_word n c) v).records))
-followed-collapse program faults replaced coin c (Some r) inverted flip w v b is flips =
-    let n = program.qubits in
-    ap (λ x. frame_with (cleared c (turned n replaced coin w v).word) (v.records ++ x ∷ [])) flips
-    ∙ ap (λ x. frame_with (cleared c (turned n replaced coin x v).word) (v.records ++ exclusive_or (anticommute (turned n replaced coin x v).word x) (flip_happens faults (option_map number_of flip)) ∷ [])) (sym is)
-    ∙ ap₂ (λ records x. frame_with (cleared c (turned n replaced coin (measured_word n c) v).word) (records ++ exclusive_or (anticommute (turned n replaced coin (measured_word n c) v).word (measured_word n c)) (exclusive_or x (flip_happens faults (option_map number_of flip))) ∷ []))
-    (sym (turned-records n replaced _ v)) (sym (none-happens (option_map number_of flip)))
 
 -- how many records a collapse makes
 pub recorded-count : (c : Measured) (rec : Option ℕ) (inverted : Bool) (flip : Option FaultName) → length (step_records (Collapse c (recorded rec inverted flip))) ≡ (if is_some rec then 1 else 0)

@@ -17,7 +17,7 @@ use Rattle.pauli_word.proofs.Parities.{exclusive_or_assoc, exclusive_or_comm, ex
 use Rattle.pauli_word.proofs.PowerLaws.{power_product_assoc}
 use Rattle.pauli_word.proofs.WordPlaces.{letters_power_at, anticommute_at, letters_product-set, letter_at-product}
 use Rattle.gate_table.specs.WordImages.{image_at_two, preimage_at_two}
-use Rattle.pauli_word.specs.Words.{signed, with_sign_changed}
+use Rattle.pauli_word.specs.Words.{signed}
 use Rattle.gate_table.proofs.WordImageLaws.{minus_moved, signs_regrouped, letter_at-none, none_set}
 
 -- a word with letters put at two qubits
@@ -76,11 +76,6 @@ pub length-image_at_two : (g : Gate) (a b : ℕ) (p : Signed) → length (image_
 length-image_at_two g a b p =
     let image = image2 g (letter_at p.letters a) (letter_at p.letters b)
     in length-set_two p.letters a b image.0 image.1
-
-pub image_at_two-changed : (g : Gate) (a b : ℕ) (c : Bool) (p : Signed) → image_at_two g a b (with_sign_changed c p) ≡ with_sign_changed c (image_at_two g a b p)
-image_at_two-changed g a b c p =
-    let image = image2 g (letter_at p.letters a) (letter_at p.letters b)
-    in ap (signed (set_two p.letters a b image.0 image.1)) (exclusive_or_assoc c p.negative image.2)
 
 pub image_at_two-none : (g : Gate) (a b n : ℕ) (c : Bool) → image_at_two g a b (signed (no_letters n) c) ≡ signed (no_letters n) c
 image_at_two-none g a b n c =

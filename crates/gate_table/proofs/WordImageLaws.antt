@@ -18,7 +18,7 @@ use Rattle.pauli_word.proofs.Parities.{exclusive_or_assoc, exclusive_or_comm, ex
 use Rattle.pauli_word.proofs.PowerLaws.{power_product_assoc, power_product_comm}
 use Rattle.pauli_word.proofs.WordPlaces.{letters_power_at, anticommute_at, letters_product-set, letter_at-product}
 use Rattle.gate_table.specs.WordImages.{image_at, preimage_at}
-use Rattle.pauli_word.specs.Words.{signed, with_sign_changed}
+use Rattle.pauli_word.specs.Words.{signed}
 
 -- the sign that a real factor brings
 pub is_minus-sign_power : (s : Bool) (p : Power) → is_minus (power_product (sign_power s) p) ≡ exclusive_or s (is_minus p)
@@ -59,10 +59,6 @@ none_set n q a h = ap (set (no_letters n) q) (h ∙ sym (letter_at-none n q)) �
 
 pub length-image_at : (g : Gate) (q : ℕ) (p : Signed) → length (image_at g q p).letters ≡ length p.letters
 length-image_at g q p = length-set p.letters q (image1 g (letter_at p.letters q)).0
-
-pub image_at-changed : (g : Gate) (q : ℕ) (b : Bool) (p : Signed) → image_at g q (with_sign_changed b p) ≡ with_sign_changed b (image_at g q p)
-image_at-changed g q b p =
-    ap (signed (set p.letters q (image1 g (letter_at p.letters q)).0)) (exclusive_or_assoc b p.negative (image1 g (letter_at p.letters q)).1)
 
 pub image_at-none : (g : Gate) (q n : ℕ) (b : Bool) → image_at g q (signed (no_letters n) b) ≡ signed (no_letters n) b
 image_at-none g q n b =

@@ -1,19 +1,17 @@
 -- What runs over plain steps rest on: the run after one more step, the coins that are left, and the records so far.
-use Rattle.std.proofs.Common.{◌≡◌, ◌≢◌, ℕ, zero, suc, ◌+◌, ◌<◌, ◌≤◌, ◌==◌, ◌&&◌, Bool, true, false, if◌then◌else◌, Option, Some, None, Result, IfOk, option_map, List, [], ◌∷◌, ◌++◌, is_some, length, get_or, take, drop, refl, sym, ap, ap₂, ◌∙◌, subst, arith, add-one, add-zero, zero-add, length-append}
-use Rattle.std.proofs.lemmas.Bool.{eq-eqb, ne_eqb}
-use Rattle.std.proofs.lemmas.List.{drop-drop, get_or-drop, get_or_past, take_all, take_more}
+use Rattle.std.proofs.Common.{◌≡◌, ℕ, zero, suc, ◌+◌, ◌<◌, ◌≤◌, Bool, false, if◌then◌else◌, Option, Some, None, Result, IfOk, option_map, List, [], ◌∷◌, ◌++◌, is_some, length, get_or, take, drop, refl, sym, ap, ap₂, ◌∙◌, subst, arith, add-one, add-zero, zero-add, length-append}
+use Rattle.std.proofs.lemmas.List.{drop-drop, get_or-drop, take_all, take_more}
 use Rattle.std.proofs.lemmas.List.FromFn.{length-range_with_len}
 use Rattle.std.specs.List.{range_with_len}
 use Rattle.pauli_word.specs.declared.letter.Letter.{Letter}
 use Rattle.pauli_word.specs.Parity.{exclusive_or}
 use Rattle.pauli_word.specs.States.{outcome}
 use Rattle.pauli_word.specs.Words.{Signed}
-use Rattle.pauli_word.proofs.Parities.{exclusive_or-false}
 use Rattle.step_model.specs.declared.step.Term.{Term}
 use Rattle.step_model.specs.Listing.{Listing, ListedStep, One, Two, Collapse, Fault, Feedback, Measured, Word, Recorded, measured_word, step_records, is_collapse}
 use Rattle.step_model.specs.Runs.{RunState, next, next_coin, record_changes, run_from, run_state_after, records_of, start}
 use Rattle.step_model.specs.WellFormed.{IsWellFormed, records_made, collapse_count}
-use Rattle.run_laws.proofs.ConstancyRecords.{get_or-push, first_of_range, in_order-next}
+use Rattle.run_laws.proofs.ConstancyRecords.{first_of_range, in_order-next}
 use Rattle.plain_runs.specs.declared.plain_step.Recording.{Recording}
 use Rattle.plain_runs.specs.declared.plain_step.PlainStep.{PlainStep}
 use Rattle.plain_runs.specs.declared.plain_step.PlainStep.TheVariants as plain
@@ -77,34 +75,6 @@ pub collapse-records : (program : Listing) (faults : List Bool) (m : RunState) (
     → get_or (next program faults (Collapse (Word w) r) m).records number false ≡ get_or (next program faults (Collapse (measured w reset) r) m).records number false
 collapse-records program faults m w reset r number e =
     ap (λ v. get_or (if is_some r then m.records ++ exclusive_or (outcome m.state v (next_coin m.coins)) (record_changes faults r) ∷ [] else m.records) number false) e
-
-pub no_record : (program : Listing) (faults : List Bool) (w : List Letter) (recording : Option Recording) (m : RunState) (number : ℕ) → recording ≡ None → get_or m.records number false ≡ get_or (next program faults (Collapse (Word w) (option_map recorded recording)) m).records number false
-no_record program faults w recording m number e =
-    ap (λ r. get_or (next program faults (Collapse (Word w) (option_map recorded r)) m).records number false) (sym e)
-
-other_sign : (x : Bool) (e b : Bool) → e ≡ false → x ≡ exclusive_or x (e && b)
-other_sign x e b h = sym (ap (λ c. exclusive_or x (c && b)) h ∙ exclusive_or-false x)
-
-pub other_record : (program : Listing) (faults : List Bool) (w : List Letter) (recording : Option Recording) (r : Recording) (m : RunState) (number : ℕ) → recording ≡ Some r → r.number ≡ length m.records → number ≢ r.number → get_or m.records number false ≡ get_or (next program faults (Collapse (Word w) (option_map recorded recording)) m).records number false
-other_record program faults w recording r m number e numbered other =
-    let made = exclusive_or (outcome m.state w (next_coin m.coins)) (record_changes faults (Some (recorded r))) in
-    other_sign (get_or m.records number false) (number == length m.records) made (ne_eqb number (length m.records) (λ same. other (same ∙ sym numbered)))
-    ∙ (sym (get_or-push m.records made number)
-    ∙ ap (λ o. get_or (next program faults (Collapse (Word w) (option_map recorded o)) m).records number false) (sym e))
-
-this_sign : (x e b : Bool) → x ≡ false → e ≡ true → b ≡ exclusive_or x (e && b)
-this_sign false true b h k = refl
-this_sign false false b h k = absurd (let c : true ≡ false = sym k in cc)
-this_sign true e b h k = absurd (let c : true ≡ false = h in cc)
-
-pub this_record : (program : Listing) (faults : List Bool) (w : List Letter) (recording : Option Recording) (r : Recording) (m : RunState) (number : ℕ) → recording ≡ Some r → r.number ≡ length m.records → number ≡ r.number → exclusive_or (outcome m.state w (next_coin m.coins)) (record_changes faults (Some (recorded r))) ≡ get_or (next program faults (Collapse (Word w) (option_map recorded recording)) m).records number false
-this_record program faults w recording r m number e numbered this =
-    let made = exclusive_or (outcome m.state w (next_coin m.coins)) (record_changes faults (Some (recorded r))) in
-    this_sign (get_or m.records number false) (number == length m.records) made
-    (get_or_past m.records number false (omega (arith, this, numbered)))
-    (eq-eqb number (length m.records) (this ∙ numbered))
-    ∙ (sym (get_or-push m.records made number)
-    ∙ ap (λ o. get_or (next program faults (Collapse (Word w) (option_map recorded o)) m).records number false) (sym e))
 
 -- a step that is no collapse makes no record
 pub no_collapse : {A : Type 0} (program : Listing) (faults : List Bool) (step : PlainStep A) (m : RunState) (number : ℕ)

@@ -1,11 +1,10 @@
 -- Lists of truth values changed by flips, and the parities of records that are changed by flips.
-use Rattle.std.proofs.Common.{◌≡◌, ℕ, zero, suc, ◌==◌, ◌&&◌, Bool, true, false, List, [], ◌∷◌, ◌++◌, length, get_or, replicate, refl, ap, ap₂, sym, ◌∙◌}
-use Rattle.std.proofs.Math.Dec.{eqb-suc-zero, eqb-zero-suc, eqb-suc-suc}
+use Rattle.std.proofs.Common.{◌≡◌, ℕ, zero, suc, ◌&&◌, Bool, true, false, List, [], ◌∷◌, ◌++◌, length, get_or, replicate, refl, ap, ap₂, ◌∙◌}
 use Rattle.std.proofs.Math.Nat.{suc_inj}
 use Rattle.pauli_word.specs.Parity.{exclusive_or}
 use Rattle.pauli_word.proofs.Parities.{exclusive_or-false, exclusive_or_middle}
 use Rattle.run_laws.specs.Shifts.{flipped_by}
-use Rattle.step_model.specs.Targets.{parity, is_listed}
+use Rattle.step_model.specs.Targets.{parity}
 
 pub joined-append : (flips later values rest : List Bool) → length flips ≡ length values → flipped_by (flips ++ later) (values ++ rest) ≡ flipped_by flips values ++ flipped_by later rest
 joined-append [] later [] rest h = refl
@@ -51,25 +50,9 @@ pub parity-zeros : (named : List ℕ) (n : ℕ) → parity named (replicate n fa
 parity-zeros [] n = refl
 parity-zeros (r ∷ named) n = ap₂ exclusive_or (get_or-zeros n r) (parity-zeros named n)
 
-get_or-split : (n r : ℕ) (b : Bool) (rest : List Bool) → get_or (replicate n false ++ b ∷ rest) r false ≡ exclusive_or ((r == n) && b) (get_or (replicate (suc n) false ++ rest) r false)
-get_or-split zero zero b rest = sym (exclusive_or-false b)
-get_or-split zero (suc r) b rest = ap (λ e. exclusive_or (e && b) (get_or rest r false)) (sym (eqb-suc-zero r))
-get_or-split (suc n) zero b rest = ap (λ e. exclusive_or (e && b) false) (sym (eqb-zero-suc n))
-get_or-split (suc n) (suc r) b rest =
-    get_or-split n r b rest
-    ∙ ap (λ e. exclusive_or (e && b) (get_or (replicate (suc n) false ++ rest) r false)) (sym (eqb-suc-suc r n))
-
 and-exclusive_or : (c d b : Bool) → exclusive_or (c && b) (d && b) ≡ exclusive_or c d && b
 and-exclusive_or false d b = refl
 and-exclusive_or true false false = refl
 and-exclusive_or true false true = refl
 and-exclusive_or true true false = refl
 and-exclusive_or true true true = refl
-
--- the value at a record counts where the record is named an odd number of times
-pub parity-split : (named : List ℕ) (n : ℕ) (b : Bool) (rest : List Bool) → parity named (replicate n false ++ b ∷ rest) ≡ exclusive_or (is_listed named n && b) (parity named (replicate (suc n) false ++ rest))
-parity-split [] n b rest = refl
-parity-split (r ∷ named) n b rest =
-    ap₂ exclusive_or (get_or-split n r b rest) (parity-split named n b rest)
-    ∙ exclusive_or_middle ((r == n) && b) (get_or (replicate (suc n) false ++ rest) r false) (is_listed named n && b) (parity named (replicate (suc n) false ++ rest))
-    ∙ ap (λ x. exclusive_or x (parity (r ∷ named) (replicate (suc n) false ++ rest))) (and-exclusive_or (r == n) (is_listed named n) b)

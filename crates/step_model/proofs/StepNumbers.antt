@@ -1,18 +1,16 @@
 -- The numbers that the steps of a well-formed program name, counted from the steps before them.
-use Rattle.std.proofs.Common.{◌≡◌, ℕ, zero, suc, ◌+◌, ◌<◌, nat_lt, true, List, [], ◌∷◌, length, take, None, Some, sym, ap, ◌∙◌, arith, length-append}
+use Rattle.std.proofs.Common.{◌≡◌, ℕ, zero, suc, ◌+◌, true, List, [], ◌∷◌, length, take, None, Some, sym, ap, ◌∙◌, arith}
 use Rattle.std.specs.List.{range_with_len}
 use Rattle.std.specs.Prelude.{slice_get}
-use Rattle.std.proofs.lemmas.Bool.{and_parts, ltb-true}
 use Rattle.std.proofs.lemmas.Option.{slice_get_within, get_or_from_slice_get}
 use Rattle.std.proofs.lemmas.List.{length-replicate}
-use Rattle.pauli_word.specs.declared.letter.Letter.{Letter}
 use Rattle.pauli_word.specs.declared.letter.Letter.TheVariants.{I}
 use Rattle.pauli_word.specs.Words.{lone_letter}
 use Rattle.pauli_word.proofs.LoneLetters.{length-lone_letter}
 use Rattle.pauli_word.proofs.WordLaws.{length-letters_product}
 use Rattle.step_model.specs.declared.step.Term.{Term}
-use Rattle.step_model.specs.Listing.{Listing, ListedStep, One, Two, Collapse, Fault, Feedback, Measured, Recorded, word_of_terms, step_records}
-use Rattle.step_model.specs.WellFormed.{IsWellFormed, step_fits, records_made, is_earlier, feeds_earlier}
+use Rattle.step_model.specs.Listing.{Listing, ListedStep, One, Two, Collapse, Fault, Feedback, Measured, Recorded, word_of_terms}
+use Rattle.step_model.specs.WellFormed.{IsWellFormed, step_fits, records_made}
 
 -- each step fits
 pub fits_at : (program : Listing) (k : ℕ) (step : ListedStep) → IsWellFormed program → slice_get program.steps k ≡ Some step → step_fits program step ≡ true
@@ -52,19 +50,3 @@ numbered_from a n (Feedback w b ∷ steps) (suc k) m r made found = numbered_fro
 
 pub record_at : (program : Listing) (k : ℕ) (m : Measured) (r : Recorded) → IsWellFormed program → slice_get program.steps k ≡ Some (Collapse m (Some r)) → r.number ≡ length (records_made (take k program.steps))
 record_at program k m r well found = numbered_from 0 program.records program.steps k m r well.records_in_order found ∙ omega arith
-
--- and feedback is by one of these
-earlier_from : (made : ℕ) (steps : List ListedStep) (k : ℕ) (w : List Letter) (r : ℕ) → feeds_earlier made steps ≡ true → slice_get steps k ≡ Some (Feedback w r) → r < made + length (records_made (take k steps))
-earlier_from made [] k w r earlier found = cc
-earlier_from made (step ∷ steps) zero w r earlier found =
-    let same : step ≡ Feedback w r = cc in
-    let here : nat_lt r made ≡ true =
-    sym (ap (is_earlier made) same)
-    ∙ (and_parts (is_earlier made step) (feeds_earlier (made + length (step_records step)) steps) earlier).0 in
-    omega (arith, ltb-true r made here)
-earlier_from made (step ∷ steps) (suc k) w r earlier found =
-    let rest = and_parts (is_earlier made step) (feeds_earlier (made + length (step_records step)) steps) earlier in
-    omega (arith, earlier_from (made + length (step_records step)) steps k w r rest.1 found, length-append (step_records step) (records_made (take k steps)))
-
-pub feedback_at : (program : Listing) (k : ℕ) (w : List Letter) (r : ℕ) → IsWellFormed program → slice_get program.steps k ≡ Some (Feedback w r) → r < length (records_made (take k program.steps))
-feedback_at program k w r well found = omega (arith, earlier_from 0 program.steps k w r well.feedback_earlier found)

@@ -76,12 +76,6 @@ lone_clash m columns term row long fits h =
     row_long : length row ≡ m
     row_long = ap length h ∙ (length-map column (letters_clash term.letter) ∙ long)
 
-pub pair_of_terms : (terms : List Term) (d e : Term) → length terms ≡ 2 → terms ≡ get_or terms 0 d ∷ get_or terms 1 e ∷ []
-pair_of_terms [] d e h = cc
-pair_of_terms (t ∷ []) d e h = cc
-pair_of_terms (t ∷ u ∷ []) d e h = refl
-pair_of_terms (t ∷ u ∷ v ∷ more) d e h = absurd (omega (arith, h))
-
 -- the row of the targets that two letters hit
 pair_clash : (m : ℕ) (columns : List (List Letter)) (first second : Term) (p q : List Bool)
     → length (get_or columns first.qubit []) ≡ m → length (get_or columns second.qubit []) ≡ m → first.qubit < length columns → second.qubit < length columns

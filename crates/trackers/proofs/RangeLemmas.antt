@@ -49,12 +49,6 @@ map_range_below f g k (suc m) same =
     ap (λ y. y ∷ map f (range_with_len (k + 1) m)) (same k (omega arith))
     ∙ ap (λ ys. g k ∷ ys) (map_range_below f g (k + 1) m (λ x h. same x (omega arith)))
 
-pub map_range_agree : {X : Type 0} (f g : ℕ → X) (k m : ℕ) → ((x : ℕ) → k ≤ x → f x ≡ g x) → map f (range_with_len k m) ≡ map g (range_with_len k m)
-map_range_agree f g k zero same = refl
-map_range_agree f g k (suc m) same =
-    ap (λ y. y ∷ map f (range_with_len (k + 1) m)) (same k (omega arith))
-    ∙ ap (λ ys. g k ∷ ys) (map_range_agree f g (k + 1) m (λ x h. same x (omega arith)))
-
 pub All-range : (k m : ℕ) → All (λ x. x < k + m) (range_with_len k m)
 All-range k m i d h =
     let within : i < m = omega (arith, length-range_with_len k m) in

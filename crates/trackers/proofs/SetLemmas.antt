@@ -319,21 +319,6 @@ summed m n mine other p q is_p is_q long descends =
       below = λ h. DescendsBelow-xor_sets m mine other h (subst (λ n. DescendsBelow n other) (sym counted) descends);
     }
 
--- no more than both have
-step_short : (x n : ℕ) (rest : List ℕ → List ℕ) (ys : List ℕ) → ((zs : List ℕ) → length (rest zs) ≤ n + length zs) → length (xor_step x rest ys) ≤ suc n + length ys
-step_short x n rest [] h = let le = h [] in omega (arith, le)
-step_short x n rest (y ∷ ys) h = by_order (nat_lt y x) (nat_lt x y) (h (y ∷ ys)) (h ys) (step_short x n rest ys h)
-  where
-    by_order : (b c : Bool) → length (rest (y ∷ ys)) ≤ n + length (y ∷ ys) → length (rest ys) ≤ n + length ys → length (xor_step x rest ys) ≤ suc n + length ys
-        → length (if b then x ∷ rest (y ∷ ys) else (if c then y ∷ xor_step x rest ys else rest ys)) ≤ suc n + length (y ∷ ys)
-    by_order true c first both later = omega (arith, first)
-    by_order false true first both later = omega (arith, later)
-    by_order false false first both later = omega (arith, both)
-
-pub xor_sets_short : (xs ys : List ℕ) → length (xor_sets xs ys) ≤ length xs + length ys
-xor_sets_short [] ys = omega arith
-xor_sets_short (x ∷ xs) ys = step_short x (length xs) (xor_sets xs) ys (xor_sets_short xs)
-
 -- a beginning of what is written over a list of as many
 pub kept_written : (kept n : ℕ) (old written : List ℕ) → kept ≤ n → kept ≤ length written → take kept (refill n old written) ≡ take kept written
 kept_written kept n old written fits within =

@@ -137,11 +137,6 @@ ones_are_hit m columns terms row h =
     count : length (transposed m columns) ≡ m
     count = length-map-range_with_len (word_at columns) 0 m
 
--- ---- add
-pub length-times_each : (letter : Letter) (ts : List ℕ) (column : List Letter) → length (times_each letter ts column) ≡ length column
-length-times_each letter [] column = refl
-length-times_each letter (t ∷ ts) column = length-times_each letter ts (set column t (letter_product letter (letter_at column t))) ∙ length-set column t (letter_product letter (letter_at column t))
-
 not_among : (ts : List ℕ) (k : ℕ) → All (λ u. k < u) ts → is_among ts k ≡ false
 not_among ts k h = list_any_none (λ u. eqb k u) ts (λ i d lt. ne_eqb k (get_or ts i d) (λ e. let above : k < get_or ts i d = h i d lt in omega (arith, e, above)))
 
