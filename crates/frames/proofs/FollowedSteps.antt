@@ -1,8 +1,9 @@
 -- The frame behind a step, as the loops over lanes make it.
 use Rattle.std.proofs.lemmas.List as lists
-use Rattle.std.proofs.Common.{set, ◌≡◌, ℕ, Bool, true, false, List, [], length, Option, None, Some, is_some, refl, sym, ap, ◌∙◌}
+use Rattle.std.proofs.Common.{get_or, set, ◌≡◌, ℕ, Bool, true, false, List, [], length, Option, None, Some, is_some, refl, sym, ap, ◌∙◌}
 use Rattle.std.specs.Prelude.{if◌then◌else◌}
-use Rattle.bit_rows.specs.Lanes.{lane_bit}
+use Rattle.bit_rows.specs.Lanes.{lane, lane_bit}
+use Rattle.bit_rows.proofs.LaneLaws.{lane_bit-zero}
 use Rattle.pauli_word.specs.declared.letter.Letter.{Letter}
 use Rattle.pauli_word.specs.declared.letter.Letter.TheVariants.{I}
 use Rattle.pauli_word.specs.Parity.{exclusive_or}
@@ -11,9 +12,10 @@ use Rattle.programs.specs.declared.step.FaultName.{FaultName}
 use Rattle.programs.specs.Listed.{measured, recorded}
 use Rattle.step_model.specs.declared.step.Term.{Term}
 use Rattle.step_model.specs.Frames.{Frame}
-use Rattle.step_model.specs.Listing.{Collapse, Measured, measured_word, step_records}
+use Rattle.step_model.specs.Listing.{Listing, ListedStep, One, Two, Collapse, Fault, Feedback, Measured, measured_word, step_records, fault_word}
 use Rattle.step_model.specs.Runs.{flip_happens}
-use Rattle.frames.specs.private.Followed.{Turns, flips_in, reset_in, turned, turned_in, turned_where}
+use Rattle.step_model.specs.Sensitivities.{multiplied}
+use Rattle.frames.specs.private.Followed.{Turns, TurnsAt, flips_in, followed, reset_in, turned, turned_in, turned_where}
 use Rattle.frames.specs.LaneFrames.{LaneFrames, frame_in, GoesTo}
 use Rattle.frames.specs.LaneLetters.{word_in}
 use Rattle.frames.proofs.FollowLaw.{turned-flip}
@@ -79,3 +81,18 @@ pub goes_cleared : (n : ℕ) (replaced : Option (List Term)) (coins : ℕ) (lett
 goes_cleared n replaced coins letter q old mid new moved clears =
     goes_as old new _ _ (goes_then old mid new _ _ moved clears)
     (λ j. ap (frame_with (set (turned n replaced (lane_bit j coins) (lone_letter n q letter) (frame_in j old)).word q I)) (turned-records n replaced _ (frame_in j old)))
+
+-- where nothing is kept of a collapse, nothing is asked of it
+pub no_turns : (n : ℕ) (step : ListedStep) → TurnsAt n None step
+no_turns n (One gate q) = tt
+no_turns n (Two gate a b) = tt
+no_turns n (Collapse c r) = tt
+no_turns n (Fault f) = tt
+no_turns n (Feedback w r) = tt
+
+-- a fault that happens in no run changes no frame
+pub quiet_fault : (faults : List ℕ) (f word : ℕ) → ((j : ℕ) → lane_bit j word ≡ get_or (lane j faults) f false) → word ≡ 0
+    → (program : Listing) (j : ℕ) (coin : Bool) (v : Frame) → followed program (lane j faults) None coin (Fault f) v ≡ v
+quiet_fault faults f word is none program j coin v =
+    ap (λ b. record v { word = multiplied b (fault_word program f) v.word })
+    (sym (is j) ∙ (ap (lane_bit j) none ∙ lane_bit-zero j))

@@ -7,7 +7,7 @@ ghost use Rattle.step_model.specs.Runs.{records_of, start};
 ghost use Rattle.frames.specs.Batches.{AreAtStart};
 
 use crate::frames::Frames;
-use crate::steps::{take_step, word_at};
+use crate::steps::{take_other, take_step, word_at};
 use forward_sim::Reference;
 use programs::{Program, Walk};
 use std::alloc::Allocator;
@@ -52,7 +52,7 @@ pub(crate) fn follow_steps<A: Allocator + Copy>(
             );
             collapse += 1;
         } else {
-            take_step(frames, program, faults, None, 0, step);
+            take_other(frames, program, faults, step);
         }
     }
 }

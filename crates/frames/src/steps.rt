@@ -1,4 +1,4 @@
-ghost use Rattle.std.specs.Prelude.{◌≡◌, ◌<◌, ◌≤◌, ◌+◌, ℕ, false, is_some, if◌then◌else◌, length, option_map, slice_index_or};
+ghost use Rattle.std.specs.Prelude.{◌≡◌, ◌<◌, ◌≤◌, ◌+◌, ℕ, None, false, is_some, IsTrue, if◌then◌else◌, length, option_map, slice_index_or};
 ghost use Rattle.bit_rows.specs.Lanes.{lane, lane_bit};
 ghost use Rattle.pauli_word.specs.Parity.{exclusive_or};
 ghost use Rattle.pauli_word.specs.Words.{lone_letter};
@@ -7,7 +7,7 @@ ghost use Rattle.programs.specs.Named.{IsStepOf};
 ghost use Rattle.step_model.specs.Listing.{word_of_terms, step_records};
 ghost use Rattle.step_model.specs.Runs.{flip_happens};
 ghost use Rattle.step_model.specs.WellFormed.{TermsFit};
-ghost use Rattle.frames.specs.private.Followed.{TurnsAt, Turns, flips_in, followed, reset_in, terms_of, terms_or_none, turned_in, turned_where};
+ghost use Rattle.frames.specs.private.Followed.{ChangesNothing, TurnsAt, Turns, flips_in, followed, reset_in, terms_of, terms_or_none, turned_in, turned_where};
 ghost use Rattle.frames.specs.LaneFrames.{GoesTo};
 
 use crate::frames::Frames;
@@ -73,6 +73,38 @@ pub(crate) fn take_step<A: Allocator + Copy>(
             let runs = frames.flips(rec as usize);
             frames.times(letter, q as usize, runs);
         }
+    }
+}
+
+/// The same for a step that is no collapse. Most faults happen in none of the runs.
+#[inline(always)]
+pub(crate) fn take_other<A: Allocator + Copy>(
+    frames: &mut Frames<A>,
+    program: &Program<'_, A>,
+    faults: &[u64],
+    step: Step,
+)
+    requires of_program { IsStepOf program.now step }
+    requires qubits { length frames.old.letters ≡ program.now.listing.qubits }
+    requires room { length frames.old.flips + length
+        (step_records (listed program.now.listing.qubits program.now.products step))
+        ≤ frames.old.room }
+    ensures { GoesTo frames.old frames.new (λ j v. followed program.now.listing (lane j faults.now)
+        None (lane_bit j 0) (listed program.now.listing.qubits program.now.products step) v) }
+{
+    if !is_quiet(faults, step) {
+        take_step(frames, program, faults, None, 0, step);
+    }
+}
+
+// Whether a step is a fault that happens in none of the runs.
+#[inline(always)]
+fn is_quiet(faults: &[u64], step: Step) -> bool
+    ensures { IsTrue result → ChangesNothing faults.now step }
+{
+    match step {
+        Step::Fault(name) => word_at(faults, name.number as usize) == 0,
+        _ => false,
     }
 }
 

@@ -4,13 +4,14 @@
 -- that anticommutes with the word measured; that leaves the run's state the same. (Pauli frames: Knill, Nature 434, 39
 -- (2005); with a reference sample, as in Stim's frame simulator: Gidney, Quantum 5, 497 (2021).)
 use Rattle.std.specs.Prelude.{⊤, ◌≡◌, ℕ, Bool, true, List, [], Option, None, Some, option_map}
-use Rattle.bit_rows.specs.Lanes.{lane_bit}
+use Rattle.bit_rows.specs.Lanes.{lane, lane_bit}
 use Rattle.forward_sim.specs.References.{terms_in}
 use Rattle.forward_sim.specs.declared.replaced_word.ReplacedWord.{ReplacedWord}
 use Rattle.pauli_word.specs.declared.letter.Letter.{Letter}
 use Rattle.pauli_word.specs.Parity.{exclusive_or}
 use Rattle.pauli_word.specs.Words.{anticommute, lone_letter}
-use Rattle.programs.specs.Listed.{measured}
+use Rattle.programs.specs.Listed.{listed, measured}
+use Rattle.programs.specs.declared.step.Step.{Step}
 use Rattle.step_model.specs.declared.step.Term.{Term}
 use Rattle.step_model.specs.Frames.{Frame}
 use Rattle.step_model.specs.Listing.{Listing, ListedStep, One, Two, Collapse, Fault, Feedback, word_of_terms, measured_word}
@@ -41,6 +42,12 @@ turned_at n replaced coin (Feedback w r) v = v
 abbrev pub followed : Listing → List Bool → Option (List Term) → Bool → ListedStep → Frame → Frame
 followed program faults replaced coin step v =
     carried_with program [] faults step (turned_at program.qubits replaced coin step v)
+
+-- a step at which no frame of these runs changes, where it is no collapse
+abbrev pub ChangesNothing : List ℕ → Step → Type 0
+ChangesNothing faults step =
+    (program : Listing) (products : List (List Term)) (j : ℕ) (coin : Bool) (v : Frame)
+    → followed program (lane j faults) None coin (listed program.qubits products step) v ≡ v
 
 -- the letters at qubits of a word that is kept of a collapse, if any
 abbrev pub terms_of : Option ReplacedWord → Option (List Term)

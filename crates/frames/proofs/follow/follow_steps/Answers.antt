@@ -109,9 +109,9 @@ loop-step-preserved-then-is_collapse g c =
           (subst (λ entry. GoesTo c.loop-step.frames c.take_step.new.frames (λ j v. followed program (lane j c.args.faults.now) entry (lane_bit j c.word_at.result) (listed_of c.args.program.now c.in-Some.step) v)) c.replaced-replaced.ensures c.take_step.ensures);
     }
 
-pub take_step-requires-else-is_collapse-clause-room : goal.take_step-requires-else-is_collapse-clause-room
-take_step-requires-else-is_collapse-clause-room g c =
-    let here = (goal.at.take_step-requires-else-is_collapse-clause-room g c).In-Some in
+pub take_other-requires-clause-room : goal.take_other-requires-clause-room
+take_other-requires-clause-room g c =
+    let here = (goal.at.take_other-requires-clause-room g c).In-Some in
     omega (arith, c.requires.room, c.loop-step.invariant.room, beside-room c.args.program.now.listing c.loop-step.reference c.args.faults.now c.args.coins.now (listed_of c.args.program.now c.in-Some.step) (drop c.next_step.new.self.place c.args.program.now.listing.steps) c.loop-step.collapse c.loop-step.frames (count g here) (before g here))
 
 pub loop-step-smaller : goal.loop-step-smaller
@@ -125,13 +125,13 @@ loop-step-preserved g c =
     let after = c.go_over.new.self in
     record {
       program = walked.program_is;
-      qubits = c.take_step-else-is_collapse.ensures.qubits ∙ c.loop-step.invariant.qubits;
-      room = c.take_step-else-is_collapse.ensures.room ∙ c.loop-step.invariant.room;
+      qubits = c.take_other.ensures.qubits ∙ c.loop-step.invariant.qubits;
+      room = c.take_other.ensures.room ∙ c.loop-step.invariant.room;
       reference = c.go_over.ensures.reference c.loop-step.invariant.reference;
       records = c.go_over.ensures.records ∙ c.loop-step.invariant.records;
       beside =
-          beside-other program c.loop-step.reference after c.args.faults.now c.args.coins.now (listed_of c.args.program.now c.in-Some.step) (drop c.next_step.new.self.place program.steps) c.loop-step.collapse 0 c.loop-step.frames c.take_step-else-is_collapse.new.frames
-          (fits g here) (collapses g here c.is_collapse.result c.is_collapse.ensures false c.if-is_collapse.false) (before g here) c.go_over.ensures.records (gone g here after c.go_over.ensures.over) c.take_step-else-is_collapse.ensures;
+          beside-other program c.loop-step.reference after c.args.faults.now c.args.coins.now (listed_of c.args.program.now c.in-Some.step) (drop c.next_step.new.self.place program.steps) c.loop-step.collapse 0 c.loop-step.frames c.take_other.new.frames
+          (fits g here) (collapses g here c.is_collapse.result c.is_collapse.ensures false c.if-is_collapse.false) (before g here) c.go_over.ensures.records (gone g here after c.go_over.ensures.over) c.take_other.ensures;
     }
 
 pub returns-clause-runs : goal.returns-clause-runs
