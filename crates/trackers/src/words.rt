@@ -1,13 +1,12 @@
-ghost use Rattle.std.specs.Prelude.{◌≡◌, ◌<◌, ◌≤◌, ◌^◌, ◌∷◌, [], ℕ, false, true, All, IfOk, OnOk, replicate};
+ghost use Rattle.std.specs.Prelude.{◌≡◌, ◌<◌, ◌≤◌, ◌^◌, false, IfOk, OnOk, replicate};
 ghost use Rattle.gate_table.specs.Images.{arity_of};
 ghost use Rattle.gate_table.specs.declared.gate.Gate.TheVariants.{CX, H};
 ghost use Rattle.pauli_word.specs.declared.letter.Letter.TheVariants.{I};
-ghost use Rattle.trackers.specs.Tracked.{anticommuting, each_word, fresh, undone_one, undone_two};
-ghost use Rattle.trackers.specs.TargetSets.{members};
+ghost use Rattle.trackers.specs.Tracked.{each_word, fresh, undone_one, undone_two};
 ghost use Rattle.trackers.specs.private.Transposed.{ArePlaces, combined, exchanged_at, multiplied_at};
 
-use crate::column::{Column, is_y};
-use crate::columns::{clashing, keep_columns, restore_columns};
+use crate::column::Column;
+use crate::columns::{empty_columns, keep_columns, list_hit, restore_columns};
 use crate::images::{images_before, is_kept, is_left, is_lost};
 use crate::pairs::{exchange_pair, image_pair, multiply_pair};
 use crate::sparse_set::SparseSet;
@@ -96,13 +95,10 @@ impl<S: TargetSet, A: Allocator + Copy> Words<S, A> {
         requires none { S.bits none ≡ replicate targets false }
         ensures { IfOk result (λ w. w ≡ fresh qubits targets) }
     {
-        let mut columns = Vec::with_capacity(alloc, qubits)?;
-        for _made in 0..qubits {
-            columns.push(Column::of_copies(&none)?)?;
-        }
         let first = Column::of_copies(&none)?;
         let second = Column::of_copies(&none)?;
         let set = none.copy()?;
+        let columns = empty_columns(alloc, qubits, &none)?;
         Ok(Words {
             targets,
             columns,
@@ -154,65 +150,6 @@ impl<S: TargetSet, A: Allocator + Copy> Words<S, A> {
             &mut self.first,
             &mut self.spare,
         )
-    }
-
-    // Lists the targets whose words anticommute with the product of these letters. After an error the list may hold
-    // some of them, or what it held.
-    #[inline(always)]
-    fn list_hit<B: Allocator + Copy>(
-        &mut self,
-        terms: &[Term],
-        hit: &mut Vec<u32, B>,
-    ) -> Result<(), AllocError>
-        requires { All (λ term. term.qubit < self.old.qubits) terms.now }
-        ensures hit { OnOk result (hit.new.items ≡ anticommuting terms.now self.old) }
-        ensures same { self.new ≡ self.old }
-    {
-        if let [term] = terms {
-            if let Some(set) = self.columns[term.qubit as usize].kept_clashing(term.letter) {
-                return set.list(hit);
-            }
-        }
-        if let [first, second] = terms {
-            if self.list_both(first, second, hit)? {
-                return Ok(());
-            }
-        }
-        clashing(
-            self.columns.as_slice(),
-            terms,
-            &mut self.set,
-            &mut self.spare,
-        )?;
-        self.set.list(hit)
-    }
-
-    // Lists the targets whose words anticommute with the product of two letters, and answers whether it did: it need
-    // not.
-    #[inline(never)]
-    fn list_both<B: Allocator + Copy>(
-        &self,
-        first: &Term,
-        second: &Term,
-        hit: &mut Vec<u32, B>,
-    ) -> Result<bool, AllocError>
-        requires first_in_range { first.now.qubit < self.now.qubits }
-        requires second_in_range { second.now.qubit < self.now.qubits }
-        ensures { IfOk result (λ done. done ≡ true
-            → hit.new.items ≡ anticommuting (first.now ∷ second.now ∷ []) self.now) }
-    {
-        let one = &self.columns[first.qubit as usize];
-        let other = &self.columns[second.qubit as usize];
-        if is_y(first.letter) && is_y(second.letter) {
-            return one.list_clashing_y(other, hit);
-        }
-        match (
-            one.kept_clashing(first.letter),
-            other.kept_clashing(second.letter),
-        ) {
-            (Some(one), Some(other)) => one.list_sum(other, hit),
-            _ => Ok(false),
-        }
     }
 
     // The commonest gate of one qubit, which exchanges X and Z.
@@ -331,7 +268,8 @@ impl<S: TargetSet, A: Allocator + Copy> Tracker for Words<S, A> {
         terms: &[Term],
         hit: &mut Vec<u32, B>,
     ) -> Result<(), AllocError> {
-        let listed = self.list_hit(terms, hit);
+        let columns = self.columns.as_slice();
+        let listed = list_hit(columns, terms, &mut self.set, &mut self.spare, hit);
         if listed.is_err() {
             hit.clear();
         }
