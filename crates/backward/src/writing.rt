@@ -126,14 +126,14 @@ fn push_from_end<'s, 'p, 'a, A: Allocator + Copy, T: Tracker, W: Sink>(
     ensures { PushesAnswer W.taken W.failures sink.old sink.new out.old out.new program.now.listing
         result }
 {
-    let parts = cut(program, 0, at, found, lines)?;
-    push_parts(program, parts, at, found, lines, out, sink)
+    let mut parts = cut(program, 0, at, found, lines)?;
+    push_parts(program, &mut parts, at, found, lines, out, sink)
 }
 
 // The same, from the start, with what a first pass left: points, and the text of the end.
 fn push_parts<'s, 'p, 'a, A: Allocator + Copy, T: Tracker, W: Sink>(
     program: &Program<'a, A>,
-    parts: Parts<'p, 'a, A>,
+    parts: &mut Parts<'p, 'a, A>,
     at: &mut Point<'p, 'a, A, T>,
     found: &mut Found<'s, A>,
     lines: &mut TextStore<'_, 'a, A>,
@@ -141,7 +141,7 @@ fn push_parts<'s, 'p, 'a, A: Allocator + Copy, T: Tracker, W: Sink>(
     sink: &mut W,
 ) -> Result<Option<(u32, Place)>, AllocError>
     requires parts { AreParts program.now 0 (length program.now.listing.steps) found.old.known
-        parts }
+        parts.old }
     requires passed { IsPassed program.now.listing 0 (T.tracked at.old.tracker) found.old }
     requires first { found.old.settled ≡ false }
     requires keeps { found.old.keeps ≡ true }
@@ -156,7 +156,7 @@ fn push_parts<'s, 'p, 'a, A: Allocator + Copy, T: Tracker, W: Sink>(
         None => {
             found.settled = true;
             lines.hold_parts();
-            write_parts(program, 0, parts.points, at, found, lines, out, sink)?;
+            write_parts(program, 0, &mut parts.points, at, found, lines, out, sink)?;
             parts.end.push_to(out, sink);
             push_declarations(program, out, sink);
             Ok(None)
