@@ -79,7 +79,7 @@ fn go_over<'s, 'p, 'a, A: Allocator + Copy, T: Tracker, L: LineStore>(
             ..
         } => {
             let terms = [Term { qubit, letter }];
-            let reset = reset_qubit(reset, qubit);
+            let reset = reset.then_some(qubit);
             collapse(program, &terms, reset, rec, flip, at, found, lines)
         }
         Step::CollapseWord {
@@ -96,13 +96,6 @@ fn go_over<'s, 'p, 'a, A: Allocator + Copy, T: Tracker, L: LineStore>(
             feedback(program, Term { qubit: q, letter }, rec, at, found)
         }
     }
-}
-
-// The qubit that a collapse resets.
-fn reset_qubit(reset: bool, qubit: u32) -> Option<u32>
-    ensures { result ≡ (if reset then Some qubit else None) }
-{
-    if reset { Some(qubit) } else { None }
 }
 
 // Goes back over a collapse of a product of letters: judges it, puts the line of the fault that flips its record, and

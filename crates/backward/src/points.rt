@@ -51,7 +51,10 @@ fn leave<'p, 'a, A: Allocator + Copy, T: Tracker>(
 ) -> Result<(), AllocError>
     ensures { OnOk result (IsLeft T.tracked at.now points.old.items points.new.items) }
 {
-    let point = at.keep(*points.allocator())?;
-    points.push(point)?;
+    let lists = at.tracker.keep(*points.allocator())?;
+    points.push(KeptPoint {
+        walk: at.walk.copy(),
+        lists,
+    })?;
     Ok(())
 }

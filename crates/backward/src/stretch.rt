@@ -168,7 +168,8 @@ fn cut_from<'s, 'p, 'a, A: Allocator + Copy, T: Tracker>(
     ensures none { OnOk result (lines.new.text.text ≡ []) }
     ensures store { lines.new.program.now ≡ lines.old.program.now }
 {
-    at.restore(point)?;
+    at.tracker.restore(&point.lists)?;
+    at.walk = point.walk;
     cut(program, from, at, found, lines)
 }
 

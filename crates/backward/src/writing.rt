@@ -175,7 +175,9 @@ fn push_declarations<'a, A: Allocator + Copy, W: Sink>(
         ++ observables_text (model_of program.now.listing)) }
 {
     push_detectors(program, out, sink);
-    push_observables(program, out, sink);
+    for observable in 0..program.observable_count() {
+        push_observable(out, sink, observable);
+    }
 }
 
 fn push_detectors<'a, A: Allocator + Copy, W: Sink>(
@@ -221,18 +223,5 @@ fn put_detectors<'a, A: Allocator + Copy>(
         left -= 1;
         program.put_coordinates(left, &mut coordinates);
         lines.put(left as u32, coordinates.as_slice());
-    }
-}
-
-fn push_observables<'a, A: Allocator + Copy, W: Sink>(
-    program: &Program<'a, A>,
-    out: &mut Pieces,
-    sink: &mut W,
-)
-    ensures { Pushes W.taken W.failures sink.old sink.new out.old out.new
-        (observables_text (model_of program.now.listing)) }
-{
-    for observable in 0..program.observable_count() {
-        push_observable(out, sink, observable);
     }
 }
