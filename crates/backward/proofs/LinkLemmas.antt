@@ -5,7 +5,7 @@ use Rattle.std.specs.List.{range_with_len, sum_by}
 use Rattle.std.specs.List.Sorted.{IsPermutation}
 use Rattle.std.proofs.Math.ListN.{get_or-append}
 use Rattle.std.proofs.Math.Seq.{get_or-append_seam}
-use Rattle.std.proofs.lemmas.List.{append_assoc, drop_more, ext_get_or, get_or_default, get_or-map, get_or-replicate, length-append, length-replicate, length-map, map-set}
+use Rattle.std.proofs.lemmas.List.{append_assoc, ext_get_or, get_or_default, get_or-map, get_or-replicate, length-append, length-replicate, length-map, map-set}
 use Rattle.std.proofs.lemmas.List.Elements.{All-set}
 use Rattle.std.proofs.lemmas.List.FromFn.{fill_by_all}
 use Rattle.std.proofs.lemmas.List.Sorted.{sum_by-IsPermutation}
@@ -170,14 +170,6 @@ falls_end (t ∷ []) zero h = tt
 falls_end (t ∷ u ∷ list) zero h = absurd (omega (arith, h))
 falls_end (t ∷ list) (suc left) h = falls_end list left (omega (arith, h))
 
--- one target more before those that fall
-pub falls_more : (list : List ℕ) (left : ℕ) → left + 1 < length list → get_or list (left + 1) 0 < get_or list left 0 → Falls (drop (left + 1) list) → Falls (drop left list)
-falls_more list left within less falls =
-    let here = drop_more list left 0 (omega (arith, within)) in
-    let next : drop (left + 1) list ≡ get_or list (left + 1) 0 ∷ drop (left + 1 + 1) list = drop_more list (left + 1) 0 within in
-    subst Falls (sym here)
-    (subst (DescendsBelow (get_or list left 0)) (sym next) (less, subst Falls next falls))
-
 -- ---- the lists of all records
 map_agree_on : {X Y : Type 0} (f g : X → Y) (xs : List X) → All (λ x. f x ≡ g x) xs → map f xs ≡ map g xs
 map_agree_on f g [] same = refl
@@ -235,14 +227,6 @@ lists_grown m links new_links places lists t =
       back = t.back;
       placed = λ k d lt. let before : get_or places k d ≤ length links = lists.placed k d lt in omega (arith, before, t.longer);
       below = λ k d lt. subst (All (λ t. t < m)) (sym (t.others (get_or places k d) (lists.placed k d lt))) (lists.below k d lt);
-    }
-
-pub AreLists-weaker : (m n : ℕ) (links : List Link) (places : List ℕ) → m ≤ n → AreLists m links places → AreLists n links places
-AreLists-weaker m n links places le lists =
-    record {
-      back = lists.back;
-      placed = lists.placed;
-      below = λ k d lt q e at. let low : get_or (list_at links (get_or places k d)) q e < m = lists.below k d lt q e at in omega (arith, low, le);
     }
 
 -- ---- no links

@@ -19,7 +19,7 @@ use Rattle.programs.specs.Kept.{KeptProgram, IsWellKept, kept_at}
 use Rattle.programs.specs.declared.step.FaultName.{FaultName}
 use Rattle.programs.specs.declared.step.Step.{Step}
 use Rattle.programs.specs.Listed.{listed, measured, recorded}
-use Rattle.programs.specs.Named.{IsNamed, IsNamedFlip, IsRecord, IsStepOf}
+use Rattle.programs.specs.Named.{IsNamed, IsNamedFlip, IsRecord}
 use Rattle.programs.proofs.NamedFaults.{named_fault}
 use Rattle.backward.specs.declared.found.Found.{Found}
 use Rattle.backward.specs.private.Collapses.{undone_collapse, members_at, noted, toggled_each}
@@ -52,10 +52,6 @@ walk_at walked program place before result step same is at e =
     (stepped program.listing.steps place (listed program.listing.qubits program.products step)
     (ap (option_map (listed program.listing.qubits program.products)) (sym is)
     ∙ subst (λ (w : KeptProgram). option_map (listed w.listing.qubits w.products) result ≡ (if place == 0 then None else slice_get w.listing.steps (place - 1))) same e))
-
-pub walk_named : (walked program : KeptProgram) (result : Option Step) (step : Step) → walked ≡ program → result ≡ Some step → IfSome result (IsStepOf walked) → IsStepOf program step
-walk_named walked program result step same is e =
-    subst (λ (o : Option Step). IfSome o (IsStepOf program)) is (subst (λ (w : KeptProgram). IfSome result (IsStepOf w)) same e)
 
 at_start : (steps : List ListedStep) (place : ℕ) → place ≤ length steps → None ≡ (if place == 0 then None else slice_get steps (place - 1)) → place ≡ 0
 at_start steps place within e =
@@ -105,27 +101,9 @@ letter_at_place program place letter q reset inverted rec flip o at is within na
       is_named = named_flip;
     }
 
-pub product_at_place : (program : KeptProgram) (place : ℕ) (terms kept : List Term) (inverted : Bool) (rec : Option ℕ) (flip : Option FaultName) → IsStepAt program.listing place (Collapse (Word (word_of_terms program.listing.qubits kept)) (recorded rec inverted flip)) → terms ≡ kept
-    → All (λ term. term.qubit < program.listing.qubits) kept → IsRecord program rec → IsNamedFlip program flip → IsCollapseAt program place terms None rec flip
-product_at_place program place terms kept inverted rec flip at is within named_record named_flip =
-    subst (λ (terms : List Term). IsCollapseAt program place terms None rec flip) (sym is)
-    (record {
-      measured = Word (word_of_terms program.listing.qubits kept);
-      inverted = inverted;
-      step = at;
-      is_measured = measured-product program.listing.qubits kept;
-      terms_fit = within;
-      reset_fits = tt;
-      is_record = named_record;
-      is_named = named_flip;
-    })
-
 -- ---- sizes
 pub words_of_size : (program : Listing) (steps : List ListedStep) (t : Tracked) → t ≡ tracked_before program steps → length t.words ≡ length (targets_of program)
 words_of_size program steps t e = ap (λ (t : Tracked). length t.words) e ∙ words_count program steps
-
-pub qubits_of_size : (program : Listing) (steps : List ListedStep) (t : Tracked) → t ≡ tracked_before program steps → t.qubits ≡ program.qubits
-qubits_of_size program steps t e = ap (λ (t : Tracked). t.qubits) e
 
 pub later_fit : (program : Listing) (place : ℕ) → AllPass (step_fits program) program.steps → AllPass (step_fits program) (drop place program.steps)
 later_fit program place fits k d lt =

@@ -1,6 +1,5 @@
 //! Going back over the steps of a program, one at a time.
-ghost use Rattle.std.specs.Prelude.{◌≡◌, ◌<◌, ◌-◌, ◌+◌, ◌∷◌, [], false, List, length, All, OnOk, Some, None, if◌then◌else◌};
-ghost use Rattle.step_model.specs.ErrorModels.{ErrorLine};
+ghost use Rattle.std.specs.Prelude.{◌≡◌, ◌<◌, ◌-◌, ◌+◌, length, All, OnOk, Some, None};
 ghost use Rattle.step_model.specs.Listing.{Fault};
 ghost use Rattle.step_model.specs.Targets.{targets_of};
 ghost use Rattle.programs.specs.Kept.{kept_at};

@@ -1,5 +1,5 @@
 //! Where targets are random.
-ghost use Rattle.std.specs.Prelude.{◌≡◌, ◌<◌, ◌≤◌, ◌^◌, ℕ, false, true, None, Some, length, replicate, All, IfOk, OnOk, IfSome, IfNone, slice_index_or};
+ghost use Rattle.std.specs.Prelude.{◌≡◌, ◌<◌, ◌≤◌, ◌^◌, ℕ, false, true, None, Some, length, All, IfOk, OnOk, IfSome, IfNone, slice_index_or};
 ghost use Rattle.step_model.specs.Targets.{targets_of};
 ghost use Rattle.backward.specs.private.Collapses.{noted, or_where};
 ghost use Rattle.backward.specs.private.Passes.{IsPassed, tracked_before, lowest_below, opened};

@@ -1,5 +1,5 @@
 //! The text of a stretch of a program's steps, whose memory doesn't grow with the text.
-ghost use Rattle.std.specs.Prelude.{◌≡◌, ◌<◌, ◌≤◌, ◌⊎◌, ◌++◌, [], ℕ, List, reverse, true, false, IfOk, OnOk, OnErr};
+ghost use Rattle.std.specs.Prelude.{◌≡◌, ◌<◌, ◌≤◌, ◌⊎◌, ◌++◌, [], List, reverse, true, false, IfOk, OnOk, OnErr};
 ghost use Rattle.step_model.specs.ErrorModels.{ErrorLine};
 ghost use Rattle.error_models.specs.HeldText.{HoldsLines};
 ghost use Rattle.streams.specs.Pushed.{Pushes};
@@ -211,7 +211,16 @@ pub(crate) fn write_parts<'s, 'p, 'a, A: Allocator + Copy, T: Tracker, W: Sink>(
         }
         let end = point.walk.place();
         let mut parts = cut_from(program, start, point, at, found, lines)?;
-        write_parts(program, start, &mut parts.points, at, found, lines, out, sink)?;
+        write_parts(
+            program,
+            start,
+            &mut parts.points,
+            at,
+            found,
+            lines,
+            out,
+            sink,
+        )?;
         parts.end.push_to(out, sink);
         lines.reuse(parts.end);
         start = end;

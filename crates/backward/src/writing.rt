@@ -1,5 +1,5 @@
 //! The text of a program's error model, written to a sink.
-ghost use Rattle.std.specs.Prelude.{◌≡◌, ◌≤◌, ◌-◌, ◌⊎◌, ◌++◌, [], false, true, length, slice_index_or, IfOk, IfErr, IfNone, IfSome, OnErr, OnOk};
+ghost use Rattle.std.specs.Prelude.{◌≡◌, ◌≤◌, ◌-◌, ◌⊎◌, ◌++◌, [], false, true, length, slice_index_or, IfOk, IfErr, IfNone, IfSome, OnErr};
 ghost use Rattle.std.specs.List.{flat_map, range_with_len};
 ghost use Rattle.error_models.specs.ModelText.{detector_text, detectors_text, model_text, observables_text};
 ghost use Rattle.streams.specs.Pushed.{Pushes};

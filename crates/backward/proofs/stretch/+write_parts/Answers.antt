@@ -133,3 +133,39 @@ loop-point-preserved g t c =
       pushed = Pushes-as c.args.sink.now c.push_to.new.sink c.args.out.now c.push_to.new.out _ _ ((ap (λ bytes. text_between program.listing c.args.from l.start ++ (text_between program.listing l.start inner ++ bytes)) end ∙ text_between-three program.listing c.args.from l.start inner point.walk.place l.invariant.from cut.0 (omega (arith, cut.1))) ∙ ap (text_between program.listing c.args.from) (sym c.place-end.ensures))
           (Pushes-trans l.invariant.pushed (Pushes-trans c.in_ok-write_parts.ensures.text c.push_to.ensures));
     }
+
+pub returns-then-has_failed-clause-tracker : goal.returns-then-has_failed-clause-tracker
+returns-then-has_failed-clause-tracker g t c = c.loop-point.invariant.tracker
+
+pub returns-then-has_failed-clause-ready : goal.returns-then-has_failed-clause-ready
+returns-then-has_failed-clause-ready g t c = c.loop-point.invariant.ready
+
+pub returns-then-has_failed-clause-known : goal.returns-then-has_failed-clause-known
+returns-then-has_failed-clause-known g t c = c.loop-point.invariant.known
+
+pub returns-then-has_failed-clause-none : goal.returns-then-has_failed-clause-none
+returns-then-has_failed-clause-none g t c = c.loop-point.invariant.none
+
+pub returns-then-has_failed-clause-store : goal.returns-then-has_failed-clause-store
+returns-then-has_failed-clause-store g t c = c.loop-point.invariant.store
+
+pub returns-clause-tracker : goal.returns-clause-tracker
+returns-clause-tracker g t c = c.loop-point.invariant.tracker
+
+pub returns-clause-ready : goal.returns-clause-ready
+returns-clause-ready g t c = c.loop-point.invariant.ready
+
+pub returns-clause-known : goal.returns-clause-known
+returns-clause-known g t c = c.loop-point.invariant.known
+
+pub returns-clause-none : goal.returns-clause-none
+returns-clause-none g t c = c.loop-point.invariant.none
+
+pub returns-clause-store : goal.returns-clause-store
+returns-clause-store g t c = c.loop-point.invariant.store
+
+pub cut_from-requires-clause-none : goal.cut_from-requires-clause-none
+cut_from-requires-clause-none g t c = c.loop-point.invariant.none
+
+pub cut_from-requires-clause-tracker : goal.cut_from-requires-clause-tracker
+cut_from-requires-clause-tracker g t c = c.loop-point.invariant.tracker
