@@ -27,15 +27,9 @@ pub last_text : (texts : List (List ℕ)) (text : List ℕ) → text_at (texts +
 last_text [] text = refl
 last_text (other ∷ texts) text = last_text texts text
 
-pub keeps_same : (old new : List (List ℕ)) → new ≡ old → KeepsTexts old new
-keeps_same old new is = λ n h. (omega (arith, h, ap length is), ap (λ texts. text_at texts n) is)
-
 pub keeps_pushed : (old new : List (List ℕ)) (text : List ℕ) → new ≡ old ++ text ∷ [] → KeepsTexts old new
 keeps_pushed old new text is =
     λ n h. (omega (arith, h, ap length is, length-one_more old text), ap (λ texts. text_at texts n) is ∙ text_at-more old (text ∷ []) n h)
-
-pub pushed_within : (old new : List (List ℕ)) (text : List ℕ) → new ≡ old ++ text ∷ [] → length old < length new
-pushed_within old new text is = omega (arith, ap length is, length-one_more old text)
 
 -- ---- lines
 pub length-lines_of : (texts : List (List ℕ)) (numbers : List ℕ) (targets : List (List ℕ)) → length numbers ≡ length targets → length (lines_of texts numbers targets) ≡ length numbers
