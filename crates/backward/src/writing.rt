@@ -104,30 +104,8 @@ fn push_analysis<'a, A: Allocator + Copy, T: Tracker + Drop, W: Sink>(
         walk: Walk::end(program),
         tracker,
     };
-    push_from_end(program, &mut at, &mut found, &mut lines, out, sink)
-}
-
-// The same, from behind the last step.
-fn push_from_end<'s, 'p, 'a, A: Allocator + Copy, T: Tracker, W: Sink>(
-    program: &Program<'a, A>,
-    at: &mut Point<'p, 'a, A, T>,
-    found: &mut Found<'s, A>,
-    lines: &mut TextStore<'_, 'a, A>,
-    out: &mut Pieces,
-    sink: &mut W,
-) -> Result<Option<(u32, Place)>, AllocError>
-    requires program { at.old.walk.program ≡ program.now }
-    requires end { at.old.walk.place ≡ length program.now.listing.steps }
-    requires passed { IsPassed program.now.listing at.old.walk.place (T.tracked at.old.tracker)
-        found.old }
-    requires first { found.old.settled ≡ false }
-    requires store { lines.old.program.now ≡ program.now }
-    requires empty { lines.old.text.text ≡ [] }
-    ensures { PushesAnswer W.taken W.failures sink.old sink.new out.old out.new program.now.listing
-        result }
-{
-    let mut parts = cut(program, 0, at, found, lines)?;
-    push_parts(program, &mut parts, at, found, lines, out, sink)
+    let mut parts = cut(program, 0, &mut at, &mut found, &mut lines)?;
+    push_parts(program, &mut parts, &mut at, &mut found, &mut lines, out, sink)
 }
 
 // The same, from the start, with what a first pass left: points, and the text of the end.
