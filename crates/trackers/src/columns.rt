@@ -1,7 +1,6 @@
 //! All columns: kept as lists, restored from them, and asked where their words anticommute with a product.
-ghost use Rattle.std.specs.Prelude.{◌≡◌, ◌<◌, ◌≤◌, ◌*◌, ◌^◌, ◌∷◌, [], true, length, All, IfOk, OnOk, map, replicate, slice_index_or};
+ghost use Rattle.std.specs.Prelude.{◌≡◌, ◌<◌, ◌≤◌, ◌*◌, ◌^◌, ◌∷◌, [], true, length, All, IfOk, OnOk, map, slice_index_or};
 ghost use Rattle.std.specs.List.{range_with_len};
-ghost use Rattle.pauli_word.specs.Bits.{letters_of};
 ghost use Rattle.pauli_word.specs.Words.{anticommute};
 ghost use Rattle.step_model.specs.Listing.{word_of_terms};
 ghost use Rattle.trackers.specs.Tracked.{anticommuting};
@@ -12,22 +11,6 @@ use crate::target_set::TargetSet;
 use flat_lists::FlatLists;
 use std::alloc::{AllocError, Allocator};
 use step_model::Term;
-
-/// Columns of two copies of a set each.
-pub(crate) fn empty_columns<S: TargetSet, A: Allocator + Copy>(
-    alloc: A,
-    count: usize,
-    none: &S,
-) -> Result<Vec<Column<S>, A>, AllocError>
-    ensures { IfOk result (λ columns. columns.items
-        ≡ replicate count (letters_of (S.bits none.now) (S.bits none.now))) }
-{
-    let mut columns = Vec::with_capacity(alloc, count)?;
-    for _made in 0..count {
-        columns.push(Column::of_copies(none)?)?;
-    }
-    Ok(columns)
-}
 
 /// The lists of each column.
 pub(crate) fn keep_columns<S: TargetSet, B: Allocator + Copy>(

@@ -6,7 +6,7 @@ ghost use Rattle.trackers.specs.Tracked.{each_word, fresh, undone_one, undone_tw
 ghost use Rattle.trackers.specs.private.Transposed.{ArePlaces, combined, exchanged_at, multiplied_at};
 
 use crate::column::Column;
-use crate::columns::{empty_columns, keep_columns, list_hit, restore_columns};
+use crate::columns::{keep_columns, list_hit, restore_columns};
 use crate::images::{images_before, is_kept, is_left, is_lost};
 use crate::pairs::{exchange_pair, image_pair, multiply_pair};
 use crate::sparse_set::SparseSet;
@@ -95,10 +95,13 @@ impl<S: TargetSet, A: Allocator + Copy> Words<S, A> {
         requires none { S.bits none ≡ replicate targets false }
         ensures { IfOk result (λ w. w ≡ fresh qubits targets) }
     {
+        let mut columns = Vec::with_capacity(alloc, qubits)?;
+        for _made in 0..qubits {
+            columns.push(Column::of_copies(&none)?)?;
+        }
         let first = Column::of_copies(&none)?;
         let second = Column::of_copies(&none)?;
         let set = none.copy()?;
-        let columns = empty_columns(alloc, qubits, &none)?;
         Ok(Words {
             targets,
             columns,
