@@ -4,7 +4,7 @@ ghost use Rattle.backward.specs.private.Collapses.{toggled_each};
 ghost use Rattle.backward.specs.private.Links.{list_at, rows_at, LeadBack, AreLists, Falls, IsGrown, IsPutAt};
 ghost use Rattle.backward.specs.private.Passes.{listing_sets};
 ghost use Rattle.backward.specs.private.RecordSets.{toggled_in_each};
-ghost use Rattle.trackers.specs.TargetSets.{members, row_of_set};
+ghost use Rattle.trackers.specs.TargetSets.{members};
 
 use crate::targets::target_count;
 use programs::Program;
@@ -136,7 +136,11 @@ impl<'s, A: Allocator + Copy> RecordLists<'s, A> {
             into.reverse();
             return Ok(());
         }
-        keep_odd(self.alloc, self.targets, into)
+        // Sorted, since a set is made fast of targets that ascend.
+        into.sort_unstable();
+        let mut set = SparseSet::none(self.alloc, self.targets);
+        make_set(&mut set, into.as_slice())?;
+        set.list(into)
     }
 
     /// Toggles each of these targets in the set of a record.
@@ -337,21 +341,4 @@ fn list_from<B: Allocator + Copy>(
         left = link.next as usize;
     }
     Ok(())
-}
-
-// Leaves each target once that a list has an odd number of times, ascending.
-fn keep_odd<A: Allocator + Copy, B: Allocator + Copy>(
-    alloc: &A,
-    targets: usize,
-    into: &mut Vec<u32, B>,
-) -> Result<(), AllocError>
-    requires few { targets ≤ 2 ^ 32 }
-    requires below { All (λ t. t < targets) into.old.items }
-    ensures { OnOk result (into.new.items ≡ members (row_of_set targets into.old.items)) }
-{
-    // Sorted, since a set is made fast of targets that ascend.
-    into.sort_unstable();
-    let mut set = SparseSet::none(alloc, targets);
-    make_set(&mut set, into.as_slice())?;
-    set.list(into)
 }

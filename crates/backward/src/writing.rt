@@ -105,7 +105,9 @@ fn push_analysis<'a, A: Allocator + Copy, T: Tracker + Drop, W: Sink>(
         tracker,
     };
     let mut parts = cut(program, 0, &mut at, &mut found, &mut lines)?;
-    push_parts(program, &mut parts, &mut at, &mut found, &mut lines, out, sink)
+    push_parts(
+        program, &mut parts, &mut at, &mut found, &mut lines, out, sink,
+    )
 }
 
 // The same, from the start, with what a first pass left: points, and the text of the end.
