@@ -155,15 +155,6 @@ impl<S: TargetSet, A: Allocator + Copy> Words<S, A> {
         )
     }
 
-    // The commonest gate of one qubit, which exchanges X and Z.
-    #[inline(always)]
-    fn undo_h(&mut self, q: usize)
-        requires { q < self.old.qubits }
-        ensures { self.new ≡ each_word (undone_one H q) self.old }
-    {
-        self.columns[q].exchange();
-    }
-
     // Any gate of one qubit, by the images of X and Z. It isn't inlined, so that the commonest gate is called fast.
     #[inline(never)]
     fn undo_one_by_table(&mut self, gate: Gate, q: usize) -> Result<(), AllocError>
@@ -175,15 +166,6 @@ impl<S: TargetSet, A: Allocator + Copy> Words<S, A> {
         let (x, _) = inverse.image1(Letter::X);
         let (z, _) = inverse.image1(Letter::Z);
         self.columns[q].become_image(x, z, &mut self.first, &mut self.spare)
-    }
-
-    // The commonest gate of two qubits, whose images the compiler then knows.
-    #[inline(always)]
-    fn undo_cx(&mut self, a: usize, b: usize) -> Result<(), AllocError>
-        requires places { ArePlaces self.old.qubits a b }
-        ensures { OnOk result (self.new ≡ each_word (undone_two CX a b) self.old) }
-    {
-        self.multiply(a, b, (Letter::I, Letter::Z), (Letter::X, Letter::I))
     }
 
     // Any gate of two qubits, by what its images show.
@@ -242,8 +224,9 @@ impl<S: TargetSet, A: Allocator + Copy> Tracker for Words<S, A> {
 
     fn undo1(&mut self, gate: Gate, q: usize) -> Result<(), AllocError> {
         match gate {
+            // The commonest, which exchanges X and Z.
             Gate::H => {
-                self.undo_h(q);
+                self.columns[q].exchange();
                 Ok(())
             }
             _ => self.undo_one_by_table(gate, q),
@@ -252,7 +235,8 @@ impl<S: TargetSet, A: Allocator + Copy> Tracker for Words<S, A> {
 
     fn undo2(&mut self, gate: Gate, a: usize, b: usize) -> Result<(), AllocError> {
         match gate {
-            Gate::CX => self.undo_cx(a, b),
+            // The commonest, whose images the compiler then knows.
+            Gate::CX => self.multiply(a, b, (Letter::I, Letter::Z), (Letter::X, Letter::I)),
             _ => self.undo_by_table(gate, a, b),
         }
     }
