@@ -106,20 +106,6 @@ impl<'s, A: Allocator + Copy> RecordLists<'s, A> {
         self.targets
     }
 
-    // Empty sets of this many targets, for this many records.
-    fn of_none(alloc: &'s A, targets: usize, records: usize) -> Result<Self, AllocError>
-        ensures { IfOk result (λ lists. lists ≡ replicate records (replicate targets false)) }
-    {
-        let places = Vec::from_elem(*alloc, 0, records)?;
-        Ok(RecordLists {
-            alloc,
-            targets,
-            links: Vec::new(*alloc),
-            places,
-            many: many_links(0, records),
-        })
-    }
-
     /// Puts the targets in the set of a record into `into`, ascending, in place of what it held.
     pub(crate) fn list<B: Allocator + Copy>(
         &self,
@@ -196,7 +182,14 @@ impl<'s, A: Allocator + Copy> RecordLists<'s, A> {
         ensures { IfOk result (λ lists. lists ≡ self.now) }
     {
         let records = self.places.len();
-        let mut lists = RecordLists::of_none(self.alloc, self.targets, records)?;
+        let places = Vec::from_elem(*self.alloc, 0, records)?;
+        let mut lists = RecordLists {
+            alloc: self.alloc,
+            targets: self.targets,
+            links: Vec::new(*self.alloc),
+            places,
+            many: self.many,
+        };
         let mut set = Vec::new(*self.alloc);
         for rec in 0..records {
             self.list(rec, &mut set)?;
