@@ -112,10 +112,6 @@ module _ {S : Type 0} {taken : S → Option (List ℕ)} {failures : S → ℕ} w
 pub text_between-none : (program : Listing) (k : ℕ) → text_between program k k ≡ []
 text_between-none program k = ap (flat_map (line_text (length program.detectors))) (lines_between-none program k)
 
--- no point is left: the end is reached
-pub reached : {A : Type 0} (start cut : ℕ) (points : List (KeptPoint A)) → points ≡ [] → first_place start points ≡ cut → start ≡ cut
-reached start cut points none e = sym (ap (first_place start) none) ∙ e
-
 -- three stretches, one after another
 pub text_between-three : (program : Listing) (a b c d : ℕ) → a ≤ b → b ≤ c → c ≤ d → text_between program a b ++ (text_between program b c ++ text_between program c d) ≡ text_between program a d
 text_between-three program a b c d ab bc cd =

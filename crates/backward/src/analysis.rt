@@ -39,27 +39,15 @@ pub fn analyse<'a, A: Allocator + Copy, T: Tracker + Drop>(
     ensures ok { IfOk result (IsAnalysed program.now.listing) }
     ensures err { IfErr result (λ e. e ≡ memory_fault) }
 {
-    Ok(find_model(alloc, program, tracker)?)
-}
-
-fn find_model<'a, A: Allocator + Copy, T: Tracker + Drop>(
-    alloc: A,
-    program: &Program<'a, A>,
-    tracker: T,
-) -> Result<Analysed<'a, A>, AllocError>
-    requires { T.tracked tracker
-        ≡ fresh program.now.listing.qubits (length (targets_of program.now.listing)) }
-    ensures { IfOk result (IsAnalysed program.now.listing) }
-{
     let mut found = Found::new(&alloc, program)?;
     let mut at = Point {
         walk: Walk::end(program),
         tracker,
     };
-    find_from_end(alloc, program, &mut at, &mut found)
+    Ok(find_from_end(alloc, program, &mut at, &mut found)?)
 }
 
-// The same, from behind the last step.
+// The error model or the target, from behind the last step.
 fn find_from_end<'s, 'p, 'a, A: Allocator + Copy, T: Tracker>(
     alloc: A,
     program: &Program<'a, A>,

@@ -1,6 +1,5 @@
 //! Going back over the steps of a program, one at a time.
-ghost use Rattle.std.specs.Prelude.{◌≡◌, ◌<◌, ◌-◌, ◌+◌, ◌∷◌, [], false, List, length, All, OnOk, Some, None, if◌then◌else◌};
-ghost use Rattle.step_model.specs.ErrorModels.{ErrorLine};
+ghost use Rattle.std.specs.Prelude.{◌≡◌, ◌<◌, ◌-◌, ◌+◌, length, All, OnOk, Some, None};
 ghost use Rattle.step_model.specs.Listing.{Fault};
 ghost use Rattle.step_model.specs.Targets.{targets_of};
 ghost use Rattle.programs.specs.Kept.{kept_at};
@@ -79,7 +78,7 @@ fn go_over<'s, 'p, 'a, A: Allocator + Copy, T: Tracker, L: LineStore>(
             ..
         } => {
             let terms = [Term { qubit, letter }];
-            let reset = reset_qubit(reset, qubit);
+            let reset = reset.then_some(qubit);
             collapse(program, &terms, reset, rec, flip, at, found, lines)
         }
         Step::CollapseWord {
@@ -96,13 +95,6 @@ fn go_over<'s, 'p, 'a, A: Allocator + Copy, T: Tracker, L: LineStore>(
             feedback(program, Term { qubit: q, letter }, rec, at, found)
         }
     }
-}
-
-// The qubit that a collapse resets.
-fn reset_qubit(reset: bool, qubit: u32) -> Option<u32>
-    ensures { result ≡ (if reset then Some qubit else None) }
-{
-    if reset { Some(qubit) } else { None }
 }
 
 // Goes back over a collapse of a product of letters: judges it, puts the line of the fault that flips its record, and

@@ -1,5 +1,5 @@
 //! Where targets are random.
-ghost use Rattle.std.specs.Prelude.{◌≡◌, ◌<◌, ◌≤◌, ◌^◌, ℕ, false, true, None, Some, length, replicate, All, IfOk, OnOk, IfSome, IfNone, slice_index_or};
+ghost use Rattle.std.specs.Prelude.{◌≡◌, ◌<◌, ◌≤◌, ◌^◌, ℕ, false, true, None, Some, length, All, IfOk, OnOk, IfSome, IfNone, slice_index_or};
 ghost use Rattle.step_model.specs.Targets.{targets_of};
 ghost use Rattle.backward.specs.private.Collapses.{noted, or_where};
 ghost use Rattle.backward.specs.private.Passes.{IsPassed, tracked_before, lowest_below, opened};
@@ -43,7 +43,7 @@ fn open<A: Allocator + Copy>(
     ensures { OnOk result (found.new.items ≡ opened targets found.old.items) }
 {
     if found.is_empty() {
-        *found = none_noted(alloc, targets)?;
+        *found = Vec::from_elem(alloc, None, targets)?;
     }
     Ok(())
 }
@@ -63,16 +63,6 @@ fn note_at(found: &mut Option<u32>, value: u32)
     if found.is_none() {
         *found = Some(value);
     }
-}
-
-// Nothing noted for this many targets.
-fn none_noted<A: Allocator + Copy>(
-    alloc: A,
-    targets: usize,
-) -> Result<Vec<Option<u32>, A>, AllocError>
-    ensures { IfOk result (λ v. v.items ≡ replicate targets None) }
-{
-    Vec::from_elem(alloc, None, targets)
 }
 
 // For each target the lowest qubit at which its word at the start has X or Y, empty where none has.

@@ -1,5 +1,5 @@
 //! Points left on the way back over a stretch of steps, from where further passes start.
-ghost use Rattle.std.specs.Prelude.{◌≡◌, ◌<◌, ◌≤◌, [], IfOk, OnOk};
+ghost use Rattle.std.specs.Prelude.{◌≡◌, ◌<◌, ◌≤◌, IfOk, OnOk};
 ghost use Rattle.backward.specs.private.Passes.{IsPassed, Stays};
 ghost use Rattle.backward.specs.private.Points.{ArePoints, IsLeft};
 
@@ -33,40 +33,15 @@ pub(crate) fn leave_points<'s, 'p, 'a, A: Allocator + Copy, T: Tracker>(
         points.items) }
 {
     let mut points = Vec::new(*found.alloc);
-    leave_on_way(program, from, distance, at, found, &mut points)?;
-    Ok(points)
-}
-
-// The same, where none is left yet.
-fn leave_on_way<'s, 'p, 'a, A: Allocator + Copy, T: Tracker>(
-    program: &Program<'a, A>,
-    from: usize,
-    distance: usize,
-    at: &mut Point<'p, 'a, A, T>,
-    found: &mut Found<'s, A>,
-    points: &mut Vec<KeptPoint<'p, 'a, A>, A>,
-) -> Result<(), AllocError>
-    requires program { at.old.walk.program ≡ program.now }
-    requires from { from ≤ at.old.walk.place }
-    requires passed { IsPassed program.now.listing at.old.walk.place (T.tracked at.old.tracker)
-        found.old }
-    requires none { points.old.items ≡ [] }
-    ensures program { at.new.walk.program ≡ at.old.walk.program }
-    ensures place { OnOk result (at.new.walk.place ≡ from) }
-    ensures passed { OnOk result
-        (IsPassed program.now.listing at.new.walk.place (T.tracked at.new.tracker) found.new) }
-    ensures stays { Stays found.old found.new }
-    ensures points { OnOk result (ArePoints program.now from at.old.walk.place points.new.items) }
-{
     let mut next = at.walk.place();
     while at.walk.place() > from {
         if at.walk.place() <= next {
-            leave(points, at)?;
+            leave(&mut points, at)?;
             next = next.saturating_sub(distance);
         }
         step_back(program, at, found, &mut NoLines { program })?;
     }
-    Ok(())
+    Ok(points)
 }
 
 // Leaves a point.
@@ -76,7 +51,10 @@ fn leave<'p, 'a, A: Allocator + Copy, T: Tracker>(
 ) -> Result<(), AllocError>
     ensures { OnOk result (IsLeft T.tracked at.now points.old.items points.new.items) }
 {
-    let point = at.keep(*points.allocator())?;
-    points.push(point)?;
+    let lists = at.tracker.keep(*points.allocator())?;
+    points.push(KeptPoint {
+        walk: at.walk.copy(),
+        lists,
+    })?;
     Ok(())
 }

@@ -1,6 +1,5 @@
 //! For each record the targets that list it, as linked lists: most records have none or few.
-ghost use Rattle.std.specs.Prelude.{◌≡◌, ◌<◌, ◌≤◌, ◌+◌, ◌-◌, ◌∷◌, ◌^◌, ℕ, [], true, false, length, replicate, sum_by, slice_index_or, slice_set, All, IfOk, OnOk};
-ghost use Rattle.step_model.specs.Targets.{targets_of};
+ghost use Rattle.std.specs.Prelude.{◌≡◌, ◌<◌, ◌≤◌, ◌+◌, ◌-◌, ◌∷◌, ◌^◌, ℕ, [], true, false, length, replicate, slice_index_or, slice_set, All, IfOk, OnOk};
 ghost use Rattle.backward.specs.private.Collapses.{toggled_each};
 ghost use Rattle.backward.specs.private.Links.{list_at, rows_at, LeadBack, AreLists, Falls, IsGrown, IsPutAt};
 ghost use Rattle.backward.specs.private.Passes.{listing_sets};
@@ -107,20 +106,6 @@ impl<'s, A: Allocator + Copy> RecordLists<'s, A> {
         self.targets
     }
 
-    // Empty sets of this many targets, for this many records.
-    fn of_none(alloc: &'s A, targets: usize, records: usize) -> Result<Self, AllocError>
-        ensures { IfOk result (λ lists. lists ≡ replicate records (replicate targets false)) }
-    {
-        let places = Vec::from_elem(*alloc, 0, records)?;
-        Ok(RecordLists {
-            alloc,
-            targets,
-            links: Vec::new(*alloc),
-            places,
-            many: many_links(0, records),
-        })
-    }
-
     /// Puts the targets in the set of a record into `into`, ascending, in place of what it held.
     pub(crate) fn list<B: Allocator + Copy>(
         &self,
@@ -197,7 +182,14 @@ impl<'s, A: Allocator + Copy> RecordLists<'s, A> {
         ensures { IfOk result (λ lists. lists ≡ self.now) }
     {
         let records = self.places.len();
-        let mut lists = RecordLists::of_none(self.alloc, self.targets, records)?;
+        let places = Vec::from_elem(*self.alloc, 0, records)?;
+        let mut lists = RecordLists {
+            alloc: self.alloc,
+            targets: self.targets,
+            links: Vec::new(*self.alloc),
+            places,
+            many: self.many,
+        };
         let mut set = Vec::new(*self.alloc);
         for rec in 0..records {
             self.list(rec, &mut set)?;
@@ -237,10 +229,7 @@ fn many_links(links: usize, records: usize) -> usize
 }
 
 // How many records the targets list together, each as often as it is listed.
-fn listed_count<'a, A: Allocator + Copy>(program: &Program<'a, A>) -> usize
-    ensures { sum_by length (targets_of program.now.listing) < 2 ^ 64
-        → result ≡ sum_by length (targets_of program.now.listing) }
-{
+fn listed_count<'a, A: Allocator + Copy>(program: &Program<'a, A>) -> usize {
     let mut count: usize = 0;
     for t in 0..target_count(program) {
         count = count.saturating_add(program.target(t).len());

@@ -1,5 +1,5 @@
 //! The text of a stretch of a program's steps, whose memory doesn't grow with the text.
-ghost use Rattle.std.specs.Prelude.{◌≡◌, ◌<◌, ◌≤◌, ◌⊎◌, ◌++◌, [], ℕ, List, reverse, true, false, IfOk, OnOk, OnErr};
+ghost use Rattle.std.specs.Prelude.{◌≡◌, ◌<◌, ◌≤◌, ◌⊎◌, ◌++◌, [], List, reverse, true, false, IfOk, OnOk, OnErr};
 ghost use Rattle.step_model.specs.ErrorModels.{ErrorLine};
 ghost use Rattle.error_models.specs.HeldText.{HoldsLines};
 ghost use Rattle.streams.specs.Pushed.{Pushes};
@@ -168,7 +168,8 @@ fn cut_from<'s, 'p, 'a, A: Allocator + Copy, T: Tracker>(
     ensures none { OnOk result (lines.new.text.text ≡ []) }
     ensures store { lines.new.program.now ≡ lines.old.program.now }
 {
-    at.restore(point)?;
+    at.tracker.restore(&point.lists)?;
+    at.walk = point.walk;
     cut(program, from, at, found, lines)
 }
 
@@ -177,30 +178,31 @@ fn cut_from<'s, 'p, 'a, A: Allocator + Copy, T: Tracker>(
 pub(crate) fn write_parts<'s, 'p, 'a, A: Allocator + Copy, T: Tracker, W: Sink>(
     program: &Program<'a, A>,
     from: usize,
-    mut points: Vec<KeptPoint<'p, 'a, A>, A>,
+    points: &mut Vec<KeptPoint<'p, 'a, A>, A>,
     at: &mut Point<'p, 'a, A, T>,
     found: &mut Found<'s, A>,
     lines: &mut TextStore<'_, 'a, A>,
     out: &mut Pieces,
     sink: &mut W,
 ) -> Result<(), AllocError>
-    requires points { ArePoints program.now from (first_place from points.items) points.items }
+    requires points { ArePoints program.now from (first_place from points.old.items)
+        points.old.items }
     requires tracker { IsFor program.now.listing (T.tracked at.old.tracker) }
-    requires ready { IsReady program.now.listing (first_place from points.items) found.old }
+    requires ready { IsReady program.now.listing (first_place from points.old.items) found.old }
     requires store { lines.old.program.now ≡ program.now }
     requires none { lines.old.text.text ≡ [] }
     ensures tracker { OnOk result (IsFor program.now.listing (T.tracked at.new.tracker)) }
     ensures ready { OnOk result
-        (IsReady program.now.listing (first_place from points.entry.items) found.new) }
+        (IsReady program.now.listing (first_place from points.old.items) found.new) }
     ensures known { found.new.known ≡ found.old.known }
     ensures none { OnOk result (lines.new.text.text ≡ []) }
     ensures store { lines.new.program.now ≡ lines.old.program.now }
     ensures text { OnOk result
         (Pushes W.taken W.failures sink.old sink.new out.old out.new
-        (text_between program.now.listing from (first_place from points.entry.items))) }
+        (text_between program.now.listing from (first_place from points.old.items))) }
     ensures some { OnErr result
         (PushesSome W.taken W.failures sink.old sink.new out.old out.new
-        (text_between program.now.listing from (first_place from points.entry.items))) }
+        (text_between program.now.listing from (first_place from points.old.items))) }
 {
     let mut start = from;
     while let Some(point) = points.pop() {
@@ -208,8 +210,17 @@ pub(crate) fn write_parts<'s, 'p, 'a, A: Allocator + Copy, T: Tracker, W: Sink>(
             return Ok(());
         }
         let end = point.walk.place();
-        let parts = cut_from(program, start, point, at, found, lines)?;
-        write_parts(program, start, parts.points, at, found, lines, out, sink)?;
+        let mut parts = cut_from(program, start, point, at, found, lines)?;
+        write_parts(
+            program,
+            start,
+            &mut parts.points,
+            at,
+            found,
+            lines,
+            out,
+            sink,
+        )?;
         parts.end.push_to(out, sink);
         lines.reuse(parts.end);
         start = end;

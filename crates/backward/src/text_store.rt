@@ -1,5 +1,5 @@
 //! The text of error lines that a pass finds, up to a limit.
-ghost use Rattle.std.specs.Prelude.{◌≡◌, ◌<◌, [], length, IfOk, OnOk};
+ghost use Rattle.std.specs.Prelude.{◌≡◌, ◌<◌, [], length, IfOk};
 ghost use Rattle.backward.specs.private.Numbered.{AreNumbers, IsTextFor};
 ghost use Rattle.error_models.specs.HeldText.{HoldsLines};
 
@@ -151,28 +151,11 @@ fn kept_numbers<'a, A: Allocator + Copy>(
     ensures text { text.new.text ≡ text.old.text }
 {
     let mut numbers = Vec::with_capacity(alloc, parts.len())?;
-    keep_each(parts, text, &mut numbers)?;
-    Ok(numbers)
-}
-
-// The same, with the numbers put in a list of none.
-fn keep_each<'a, A: Allocator + Copy>(
-    parts: &[ChanceText<'a>],
-    text: &mut LinesText<'a, A>,
-    numbers: &mut Vec<usize, A>,
-) -> Result<(), AllocError>
-    requires { numbers.old.items ≡ [] }
-    ensures numbers { OnOk result (AreNumbers parts.now text.new.texts numbers.new.items) }
-    ensures counted { OnOk result (length numbers.new.items ≡ length parts.now) }
-    ensures detectors { text.new.detectors ≡ text.old.detectors }
-    ensures targets { text.new.targets ≡ text.old.targets }
-    ensures text { text.new.text ≡ text.old.text }
-{
     for part in parts {
         let number = text.keep_text(part.text)?;
         numbers.push(number)?;
     }
-    Ok(())
+    Ok(numbers)
 }
 
 impl<'p, 'a, A: Allocator + Copy> LineStore for TextStore<'p, 'a, A> {

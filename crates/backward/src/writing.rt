@@ -1,5 +1,5 @@
 //! The text of a program's error model, written to a sink.
-ghost use Rattle.std.specs.Prelude.{◌≡◌, ◌≤◌, ◌-◌, ◌⊎◌, ◌++◌, [], false, true, length, slice_index_or, IfOk, IfErr, IfNone, IfSome, OnErr, OnOk};
+ghost use Rattle.std.specs.Prelude.{◌≡◌, ◌≤◌, ◌-◌, ◌⊎◌, ◌++◌, [], false, true, length, slice_index_or, IfOk, IfErr, IfNone, IfSome, OnErr};
 ghost use Rattle.std.specs.List.{flat_map, range_with_len};
 ghost use Rattle.error_models.specs.ModelText.{detector_text, detectors_text, model_text, observables_text};
 ghost use Rattle.streams.specs.Pushed.{Pushes};
@@ -104,36 +104,16 @@ fn push_analysis<'a, A: Allocator + Copy, T: Tracker + Drop, W: Sink>(
         walk: Walk::end(program),
         tracker,
     };
-    push_from_end(program, &mut at, &mut found, &mut lines, out, sink)
-}
-
-// The same, from behind the last step.
-fn push_from_end<'s, 'p, 'a, A: Allocator + Copy, T: Tracker, W: Sink>(
-    program: &Program<'a, A>,
-    at: &mut Point<'p, 'a, A, T>,
-    found: &mut Found<'s, A>,
-    lines: &mut TextStore<'_, 'a, A>,
-    out: &mut Pieces,
-    sink: &mut W,
-) -> Result<Option<(u32, Place)>, AllocError>
-    requires program { at.old.walk.program ≡ program.now }
-    requires end { at.old.walk.place ≡ length program.now.listing.steps }
-    requires passed { IsPassed program.now.listing at.old.walk.place (T.tracked at.old.tracker)
-        found.old }
-    requires first { found.old.settled ≡ false }
-    requires store { lines.old.program.now ≡ program.now }
-    requires empty { lines.old.text.text ≡ [] }
-    ensures { PushesAnswer W.taken W.failures sink.old sink.new out.old out.new program.now.listing
-        result }
-{
-    let parts = cut(program, 0, at, found, lines)?;
-    push_parts(program, parts, at, found, lines, out, sink)
+    let mut parts = cut(program, 0, &mut at, &mut found, &mut lines)?;
+    push_parts(
+        program, &mut parts, &mut at, &mut found, &mut lines, out, sink,
+    )
 }
 
 // The same, from the start, with what a first pass left: points, and the text of the end.
 fn push_parts<'s, 'p, 'a, A: Allocator + Copy, T: Tracker, W: Sink>(
     program: &Program<'a, A>,
-    parts: Parts<'p, 'a, A>,
+    parts: &mut Parts<'p, 'a, A>,
     at: &mut Point<'p, 'a, A, T>,
     found: &mut Found<'s, A>,
     lines: &mut TextStore<'_, 'a, A>,
@@ -141,7 +121,7 @@ fn push_parts<'s, 'p, 'a, A: Allocator + Copy, T: Tracker, W: Sink>(
     sink: &mut W,
 ) -> Result<Option<(u32, Place)>, AllocError>
     requires parts { AreParts program.now 0 (length program.now.listing.steps) found.old.known
-        parts }
+        parts.old }
     requires passed { IsPassed program.now.listing 0 (T.tracked at.old.tracker) found.old }
     requires first { found.old.settled ≡ false }
     requires keeps { found.old.keeps ≡ true }
@@ -156,7 +136,7 @@ fn push_parts<'s, 'p, 'a, A: Allocator + Copy, T: Tracker, W: Sink>(
         None => {
             found.settled = true;
             lines.hold_parts();
-            write_parts(program, 0, parts.points, at, found, lines, out, sink)?;
+            write_parts(program, 0, &mut parts.points, at, found, lines, out, sink)?;
             parts.end.push_to(out, sink);
             push_declarations(program, out, sink);
             Ok(None)
@@ -175,7 +155,9 @@ fn push_declarations<'a, A: Allocator + Copy, W: Sink>(
         ++ observables_text (model_of program.now.listing)) }
 {
     push_detectors(program, out, sink);
-    push_observables(program, out, sink);
+    for observable in 0..program.observable_count() {
+        push_observable(out, sink, observable);
+    }
 }
 
 fn push_detectors<'a, A: Allocator + Copy, W: Sink>(
@@ -221,18 +203,5 @@ fn put_detectors<'a, A: Allocator + Copy>(
         left -= 1;
         program.put_coordinates(left, &mut coordinates);
         lines.put(left as u32, coordinates.as_slice());
-    }
-}
-
-fn push_observables<'a, A: Allocator + Copy, W: Sink>(
-    program: &Program<'a, A>,
-    out: &mut Pieces,
-    sink: &mut W,
-)
-    ensures { Pushes W.taken W.failures sink.old sink.new out.old out.new
-        (observables_text (model_of program.now.listing)) }
-{
-    for observable in 0..program.observable_count() {
-        push_observable(out, sink, observable);
     }
 }

@@ -56,6 +56,11 @@ column_at {m} {columns} q column d long within at =
       as_long = λ n e. e ∙ sym (ap length at ∙ long q d within);
     }
 
+-- two that are read are as long as one another
+pub same_long : (columns : List (List Letter)) (p q : ℕ) (d e u v : List Letter) → p < length columns → q < length columns → length (get_or columns p []) ≡ length (get_or columns q []) → u ≡ get_or columns p d → v ≡ get_or columns q e → length u ≡ length v
+same_long columns p q d e u v in_first in_second same at_first at_second =
+    ap length (at_first ∙ get_or_default columns p d [] in_first) ∙ (same ∙ sym (ap length (at_second ∙ get_or_default columns q e [] in_second)))
+
 -- the same, by the qubit of the words at which it stands
 pub lent : {m : ℕ} {columns : List (List Letter)} {first second : List Letter} {set spare : List Bool} {tracked : Tracked} (q : ℕ) (column d : List Letter) → IsTransposed m columns first second set spare
     → tracked_of m columns ≡ tracked → q < tracked.qubits → column ≡ get_or columns q d → IsColumn m q columns column

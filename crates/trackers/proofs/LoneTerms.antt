@@ -1,7 +1,6 @@
 -- A word of one letter: the targets that it hits are those of one set of the letter's column. Of two letters: those that
 -- are in one of their sets alone.
 use Rattle.std.proofs.Common.{◌≡◌, ℕ, ◌<◌, Bool, true, false, List, [], ◌∷◌, length, map, get_or, refl, ap, ap₂, sym, ◌∙◌, arith}
-use Rattle.std.specs.Prelude.{All}
 use Rattle.std.specs.List.{range_with_len}
 use Rattle.std.proofs.Math.Nat.{suc_inj}
 use Rattle.std.proofs.lemmas.List.{get_or_default, length-map}
@@ -17,7 +16,7 @@ use Rattle.pauli_word.proofs.Parities.{exclusive_or-false}
 use Rattle.step_model.specs.declared.step.Term.{Term}
 use Rattle.step_model.specs.Listing.{word_of_terms}
 use Rattle.trackers.specs.TargetSets.{members}
-use Rattle.trackers.specs.Tracked.{Tracked, anticommuting}
+use Rattle.trackers.specs.Tracked.{anticommuting}
 use Rattle.trackers.specs.private.Transposed.{tracked_of, word_at}
 use Rattle.trackers.proofs.TransposedLemmas.{clash_more, clash_none, clash_rows, get_or-xor_rows, length-xor_rows, ones_are_hit}
 
@@ -105,16 +104,13 @@ pair_clash m columns first second p q first_long second_long first_fits second_f
     same = p_long ∙ sym q_long
 
 -- the same of columns as they are read
-pub pair_hit : (m : ℕ) (columns : List (List Letter)) (held : Tracked) (first second : Term) (d e u v : List Letter) (p q : List Bool) → tracked_of m columns ≡ held → All (λ column. length column ≡ m) columns
-    → first.qubit < held.qubits → second.qubit < held.qubits → u ≡ get_or columns first.qubit d → v ≡ get_or columns second.qubit e
+pub pair_hit : (columns : List (List Letter)) (first second : Term) (d e u v : List Letter) (p q : List Bool) → first.qubit < length columns → second.qubit < length columns
+    → length (get_or columns first.qubit []) ≡ length (get_or columns second.qubit []) → u ≡ get_or columns first.qubit d → v ≡ get_or columns second.qubit e
     → p ≡ map (letters_clash first.letter) u → q ≡ map (letters_clash second.letter) v
-    → members (xor_rows p q) ≡ anticommuting (first ∷ second ∷ []) held
-pair_hit m columns held first second d e u v p q is long in_first in_second at_first at_second hp hq =
-    let counted = ap (λ (t : Tracked). t.qubits) is in
-    let first_fits : first.qubit < length columns = omega (arith, in_first, counted) in
-    let second_fits : second.qubit < length columns = omega (arith, in_second, counted) in
+    → members (xor_rows p q) ≡ anticommuting (first ∷ second ∷ []) (tracked_of (length (get_or columns first.qubit [])) columns)
+pair_hit columns first second d e u v p q first_fits second_fits same at_first at_second hp hq =
+    let m = length (get_or columns first.qubit []) in
     ones_are_hit m columns (first ∷ second ∷ []) (xor_rows p q)
-    (pair_clash m columns first second p q (long first.qubit [] first_fits) (long second.qubit [] second_fits) first_fits second_fits
+    (pair_clash m columns first second p q refl (sym same) first_fits second_fits
     (hp ∙ ap (map (letters_clash first.letter)) (at_first ∙ get_or_default columns first.qubit d [] first_fits))
     (hq ∙ ap (map (letters_clash second.letter)) (at_second ∙ get_or_default columns second.qubit e [] second_fits)))
-    ∙ ap (anticommuting (first ∷ second ∷ [])) is

@@ -1,5 +1,5 @@
 -- Two columns of a list that is written through its two parts.
-use Rattle.std.proofs.Common.{◌≡◌, ℕ, ◌+◌, ◌-◌, ◌<◌, List, [], ◌++◌, Result, Ok, Err, OnOk, length, map, take, drop, set, get_or, ap, ap₂, subst, sym, ◌∙◌, arith, length-set}
+use Rattle.std.proofs.Common.{◌≡◌, ℕ, ◌+◌, ◌-◌, ◌<◌, List, [], ◌++◌, Result, Ok, Err, OnOk, length, map, take, drop, set, get_or, ap, ap₂, subst, sym, ◌∙◌, arith, length-set, ◌*◌, ◌≤◌, Fits, w64, rules}
 use Rattle.std.specs.Prelude.{All}
 use Rattle.std.proofs.lemmas.List.{get_or-take, get_or-drop, get_or_default, set-append_left, set-append_right, take-append-drop, length-drop, length-take-le}
 use Rattle.std.proofs.lemmas.List.Elements.{All-set}
@@ -80,3 +80,10 @@ parts_of m a b columns front back is_front is_back before within long =
       whole = whole;
       stay_long = λ x y x_long y_long. subst (All (λ column. length column ≡ m)) (sym (whole x y)) (both_long m a b columns x y x_long y_long long);
     }
+
+-- the first column lies at 0, whatever a column's size is
+pub fits_none : (size : ℕ) → Fits w64 (0 * size)
+fits_none size = search rules
+
+pub split_inside : (k n : ℕ) → k < n → k ≤ n
+split_inside k n h = omega (arith, h)

@@ -1,11 +1,12 @@
 //! All columns: kept as lists, restored from them, and asked where their words anticommute with a product.
-ghost use Rattle.std.specs.Prelude.{◌≡◌, ◌<◌, ◌≤◌, ◌*◌, ◌^◌, length, All, IfOk, OnOk, map};
+ghost use Rattle.std.specs.Prelude.{◌≡◌, ◌<◌, ◌≤◌, ◌*◌, ◌^◌, ◌∷◌, [], true, length, All, IfOk, OnOk, map, slice_index_or};
 ghost use Rattle.std.specs.List.{range_with_len};
 ghost use Rattle.pauli_word.specs.Words.{anticommute};
 ghost use Rattle.step_model.specs.Listing.{word_of_terms};
-ghost use Rattle.trackers.specs.private.Transposed.{lists_of_each, word_at, AreRestored};
+ghost use Rattle.trackers.specs.Tracked.{anticommuting};
+ghost use Rattle.trackers.specs.private.Transposed.{lists_of_each, tracked_of, word_at, AreRestored};
 
-use crate::column::Column;
+use crate::column::{Column, is_y};
 use crate::target_set::TargetSet;
 use flat_lists::FlatLists;
 use std::alloc::{AllocError, Allocator};
@@ -43,9 +44,74 @@ pub(crate) fn restore_columns<S: TargetSet, B: Allocator + Copy>(
     Ok(())
 }
 
-/// The targets whose words anticommute with the product of these letters at qubits.
+/// Lists the targets whose words anticommute with the product of these letters. After an error the list may hold some
+/// of them, or what it held.
+#[inline(always)]
+pub(crate) fn list_hit<S: TargetSet, B: Allocator + Copy>(
+    columns: &[Column<S>],
+    terms: &[Term],
+    set: &mut S,
+    spare: &mut S,
+    hit: &mut Vec<u32, B>,
+) -> Result<(), AllocError>
+    requires terms { All (λ term. term.qubit < length columns.now) terms.now }
+    requires long { All (λ column. length column ≡ length (S.bits set.old)) columns.now }
+    requires spare { length (S.bits spare.old) ≡ length (S.bits set.old) }
+    requires few { length (S.bits set.old) ≤ 2 ^ 32 }
+    ensures hit { OnOk result
+        (hit.new.items
+        ≡ anticommuting terms.now (tracked_of (length (S.bits set.old)) columns.now)) }
+    ensures len { length (S.bits set.new) ≡ length (S.bits set.old) }
+    ensures spare { length (S.bits spare.new) ≡ length (S.bits spare.old) }
+{
+    if let [term] = terms {
+        if let Some(set) = columns[term.qubit as usize].kept_clashing(term.letter) {
+            return set.list(hit);
+        }
+    }
+    if let [first, second] = terms {
+        if list_both(columns, first, second, hit)? {
+            return Ok(());
+        }
+    }
+    clashing(columns, terms, set, spare)?;
+    set.list(hit)
+}
+
+// Lists the targets whose words anticommute with the product of two letters, and answers whether it did: it need not.
 #[inline(never)]
-pub(crate) fn clashing<S: TargetSet>(
+fn list_both<S: TargetSet, B: Allocator + Copy>(
+    columns: &[Column<S>],
+    first: &Term,
+    second: &Term,
+    hit: &mut Vec<u32, B>,
+) -> Result<bool, AllocError>
+    requires first_in_range { first.now.qubit < length columns.now }
+    requires second_in_range { second.now.qubit < length columns.now }
+    requires same { length (slice_index_or columns.now first.now.qubit [])
+        ≡ length (slice_index_or columns.now second.now.qubit []) }
+    ensures { IfOk result (λ done. done ≡ true
+        → hit.new.items
+        ≡ anticommuting (first.now ∷ second.now ∷ [])
+        (tracked_of (length (slice_index_or columns.now first.now.qubit [])) columns.now)) }
+{
+    let one = &columns[first.qubit as usize];
+    let other = &columns[second.qubit as usize];
+    if is_y(first.letter) && is_y(second.letter) {
+        return one.list_clashing_y(other, hit);
+    }
+    match (
+        one.kept_clashing(first.letter),
+        other.kept_clashing(second.letter),
+    ) {
+        (Some(one), Some(other)) => one.list_sum(other, hit),
+        _ => Ok(false),
+    }
+}
+
+// The targets whose words anticommute with the product of these letters at qubits.
+#[inline(never)]
+fn clashing<S: TargetSet>(
     columns: &[Column<S>],
     terms: &[Term],
     set: &mut S,

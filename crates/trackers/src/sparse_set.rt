@@ -12,7 +12,6 @@ use std::marker::Model;
 
 /// A set of targets as the list of those in it, the greatest first: where targets come from the greatest down, each is
 /// appended.
-#[derive(Drop)]
 pub struct SparseSet<'a, A: Allocator + Copy> {
     targets: usize,
     // On a borrowed allocator, since the size of a SmallVec has to be known.
@@ -29,6 +28,14 @@ impl<'a, A: Allocator + Copy> Model for SparseSet<'a, A> {
     ghost view = { λ s. row_of_set s.targets s.items.items };
 
     ghost invariant = { λ s. DescendsBelow s.targets s.items.items };
+}
+
+// Written out, so that it is a call in the proof of each function that owns one.
+impl<A: Allocator + Copy> Drop for SparseSet<'_, A> {
+    fn drop(self) {
+        let SparseSet { targets: _, items } = self;
+        drop(items);
+    }
 }
 
 impl<'a, A: Allocator + Copy> SparseSet<'a, A> {

@@ -1,13 +1,12 @@
-ghost use Rattle.std.specs.Prelude.{◌≡◌, ◌<◌, ◌≤◌, ◌^◌, ◌∷◌, [], ℕ, false, true, All, IfOk, OnOk, replicate};
+ghost use Rattle.std.specs.Prelude.{◌≡◌, ◌<◌, ◌≤◌, ◌^◌, false, IfOk, OnOk, replicate};
 ghost use Rattle.gate_table.specs.Images.{arity_of};
 ghost use Rattle.gate_table.specs.declared.gate.Gate.TheVariants.{CX, H};
 ghost use Rattle.pauli_word.specs.declared.letter.Letter.TheVariants.{I};
-ghost use Rattle.trackers.specs.Tracked.{anticommuting, each_word, fresh, undone_one, undone_two};
-ghost use Rattle.trackers.specs.TargetSets.{members};
+ghost use Rattle.trackers.specs.Tracked.{each_word, fresh, undone_one, undone_two};
 ghost use Rattle.trackers.specs.private.Transposed.{ArePlaces, combined, exchanged_at, multiplied_at};
 
-use crate::column::{Column, is_y};
-use crate::columns::{clashing, keep_columns, restore_columns};
+use crate::column::Column;
+use crate::columns::{keep_columns, list_hit, restore_columns};
 use crate::images::{images_before, is_kept, is_left, is_lost};
 use crate::pairs::{exchange_pair, image_pair, multiply_pair};
 use crate::sparse_set::SparseSet;
@@ -156,74 +155,6 @@ impl<S: TargetSet, A: Allocator + Copy> Words<S, A> {
         )
     }
 
-    // Lists the targets whose words anticommute with the product of these letters. After an error the list may hold
-    // some of them, or what it held.
-    #[inline(always)]
-    fn list_hit<B: Allocator + Copy>(
-        &mut self,
-        terms: &[Term],
-        hit: &mut Vec<u32, B>,
-    ) -> Result<(), AllocError>
-        requires { All (λ term. term.qubit < self.old.qubits) terms.now }
-        ensures hit { OnOk result (hit.new.items ≡ anticommuting terms.now self.old) }
-        ensures same { self.new ≡ self.old }
-    {
-        if let [term] = terms {
-            if let Some(set) = self.columns[term.qubit as usize].kept_clashing(term.letter) {
-                return set.list(hit);
-            }
-        }
-        if let [first, second] = terms {
-            if self.list_both(first, second, hit)? {
-                return Ok(());
-            }
-        }
-        clashing(
-            self.columns.as_slice(),
-            terms,
-            &mut self.set,
-            &mut self.spare,
-        )?;
-        self.set.list(hit)
-    }
-
-    // Lists the targets whose words anticommute with the product of two letters, and answers whether it did: it need
-    // not.
-    #[inline(never)]
-    fn list_both<B: Allocator + Copy>(
-        &self,
-        first: &Term,
-        second: &Term,
-        hit: &mut Vec<u32, B>,
-    ) -> Result<bool, AllocError>
-        requires first_in_range { first.now.qubit < self.now.qubits }
-        requires second_in_range { second.now.qubit < self.now.qubits }
-        ensures { IfOk result (λ done. done ≡ true
-            → hit.new.items ≡ anticommuting (first.now ∷ second.now ∷ []) self.now) }
-    {
-        let one = &self.columns[first.qubit as usize];
-        let other = &self.columns[second.qubit as usize];
-        if is_y(first.letter) && is_y(second.letter) {
-            return one.list_clashing_y(other, hit);
-        }
-        match (
-            one.kept_clashing(first.letter),
-            other.kept_clashing(second.letter),
-        ) {
-            (Some(one), Some(other)) => one.list_sum(other, hit),
-            _ => Ok(false),
-        }
-    }
-
-    // The commonest gate of one qubit, which exchanges X and Z.
-    #[inline(always)]
-    fn undo_h(&mut self, q: usize)
-        requires { q < self.old.qubits }
-        ensures { self.new ≡ each_word (undone_one H q) self.old }
-    {
-        self.columns[q].exchange();
-    }
-
     // Any gate of one qubit, by the images of X and Z. It isn't inlined, so that the commonest gate is called fast.
     #[inline(never)]
     fn undo_one_by_table(&mut self, gate: Gate, q: usize) -> Result<(), AllocError>
@@ -235,15 +166,6 @@ impl<S: TargetSet, A: Allocator + Copy> Words<S, A> {
         let (x, _) = inverse.image1(Letter::X);
         let (z, _) = inverse.image1(Letter::Z);
         self.columns[q].become_image(x, z, &mut self.first, &mut self.spare)
-    }
-
-    // The commonest gate of two qubits, whose images the compiler then knows.
-    #[inline(always)]
-    fn undo_cx(&mut self, a: usize, b: usize) -> Result<(), AllocError>
-        requires places { ArePlaces self.old.qubits a b }
-        ensures { OnOk result (self.new ≡ each_word (undone_two CX a b) self.old) }
-    {
-        self.multiply(a, b, (Letter::I, Letter::Z), (Letter::X, Letter::I))
     }
 
     // Any gate of two qubits, by what its images show.
@@ -302,8 +224,9 @@ impl<S: TargetSet, A: Allocator + Copy> Tracker for Words<S, A> {
 
     fn undo1(&mut self, gate: Gate, q: usize) -> Result<(), AllocError> {
         match gate {
+            // The commonest, which exchanges X and Z.
             Gate::H => {
-                self.undo_h(q);
+                self.columns[q].exchange();
                 Ok(())
             }
             _ => self.undo_one_by_table(gate, q),
@@ -312,7 +235,8 @@ impl<S: TargetSet, A: Allocator + Copy> Tracker for Words<S, A> {
 
     fn undo2(&mut self, gate: Gate, a: usize, b: usize) -> Result<(), AllocError> {
         match gate {
-            Gate::CX => self.undo_cx(a, b),
+            // The commonest, whose images the compiler then knows.
+            Gate::CX => self.multiply(a, b, (Letter::I, Letter::Z), (Letter::X, Letter::I)),
             _ => self.undo_by_table(gate, a, b),
         }
     }
@@ -331,7 +255,8 @@ impl<S: TargetSet, A: Allocator + Copy> Tracker for Words<S, A> {
         terms: &[Term],
         hit: &mut Vec<u32, B>,
     ) -> Result<(), AllocError> {
-        let listed = self.list_hit(terms, hit);
+        let columns = self.columns.as_slice();
+        let listed = list_hit(columns, terms, &mut self.set, &mut self.spare, hit);
         if listed.is_err() {
             hit.clear();
         }

@@ -2,10 +2,8 @@
 -- the places noted, however the words are kept. A collapse is the projective measurement inside a measurement or a
 -- reset. (Sensitivities taken back over a circuit: Gidney, Quantum 5, 497 (2021). How they are kept here is this
 -- project's own.)
-use Rattle.std.specs.Prelude.{◌≡◌, ℕ, Bool, true, false, All, length, List, [], ◌∷◌, Option, None, Some, slice_index_or, slice_set}
+use Rattle.std.specs.Prelude.{ℕ, Bool, true, false, List, [], ◌∷◌, Option, None, Some, slice_index_or, slice_set}
 use Rattle.step_model.specs.declared.step.Term.{Term}
-use Rattle.step_model.specs.Listing.{Listing}
-use Rattle.step_model.specs.Targets.{targets_of}
 use Rattle.trackers.specs.TargetSets.{members, toggled}
 use Rattle.trackers.specs.Tracked.{Tracked, each_word, with_I_at, added}
 
@@ -43,11 +41,3 @@ or_where value false None = None
 abbrev pub noted : ℕ → List ℕ → List (Option ℕ) → List (Option ℕ)
 noted value [] found = found
 noted value (t ∷ ts) found = noted value ts (slice_set found t (or_where value true (slice_index_or found t None)))
-
--- what is kept fits a program: of its qubits, a word and a place for each target, a set of targets for each record
-pub record IsOfSize (program : Listing) (tracked : Tracked) (record_sets : List (List Bool)) (places : List (Option ℕ)) : Type 0 where
-  pub qubits : tracked.qubits ≡ program.qubits
-  pub words : length tracked.words ≡ length (targets_of program)
-  pub sets : length record_sets ≡ program.records
-  pub sets_long : All (λ set. length set ≡ length (targets_of program)) record_sets
-  pub latest : length places ≡ length (targets_of program)

@@ -1,9 +1,15 @@
-use Rattle.std.proofs.Common.{refl, subst}
+use Rattle.std.proofs.Common.{◌≡◌, ℕ, Bool, true, false, Some, None, refl, subst, ◌∙◌}
+use Rattle.std.specs.Prelude.{if◌then◌else◌}
+use Rattle.std.specs.Bool.{then_some}
 use Rattle.std.proofs.lemmas.Result.{on_ok_weaker}
 use Rattle.programs.specs.Named.{IsStepOf}
 use Rattle.backward.proofs.PassSteps.{letter_at_place, passed-one, passed-two}
 use Rattle.backward.proofs.StepLemmas.{at_step, over_quiet, stays_as}
 use Rattle.backward.proofs.pass.go_over.Goals as goal
+
+some_where : (b : Bool) (q : ℕ) → then_some b q ≡ (if b then Some q else None)
+some_where true q = refl
+some_where false q = refl
 
 pub collapse-requires-clause-step : goal.collapse-requires-clause-step
 collapse-requires-clause-step g c =
@@ -12,7 +18,7 @@ collapse-requires-clause-step g c =
     let s = c.in-Collapse in
     let at = at_step program place s.is c.requires.step in
     let named = subst (IsStepOf program) s.is c.requires.named in
-    letter_at_place program place s.letter s.qubit s.reset s.inverted s.rec s.flip c.reset_qubit-reset.result at c.reset_qubit-reset.ensures named.1 named.2 named.3
+    letter_at_place program place s.letter s.qubit s.reset s.inverted s.rec s.flip c.then_some-reset.result at (c.then_some-reset.ensures ∙ some_where s.reset s.qubit) named.1 named.2 named.3
 
 pub returns-in-One : goal.returns-in-One
 returns-in-One g c =

@@ -26,7 +26,7 @@ pub returns-then-has_failed-clause-text : goal.returns-then-has_failed-clause-te
 returns-then-has_failed-clause-text g t c =
     let program = c.args.program.now in
     let l = c.loop-point in
-    let whole = first_place c.args.from c.args.points.items in
+    let whole = first_place c.args.from c.args.points.now.items in
     let last = popped program l.start whole l.points.items c.pop.new.self.items c.pop.result c.in-Some.point c.pop.ensures.items c.in-Some.is l.invariant.points in
     Pushes-as c.args.sink.now l.sink c.args.out.now l.out _ _ (text_between-parts program.listing c.args.from l.start whole l.invariant.from (omega (arith, last.after, last.within)))
     (Pushes-trans l.invariant.pushed (Pushes-failed l.sink l.out (text_between program.listing l.start whole) (sym c.has_failed.ensures ∙ c.if-has_failed.true)))
@@ -34,18 +34,18 @@ returns-then-has_failed-clause-text g t c =
 pub cut_from-requires-clause-point : goal.cut_from-requires-clause-point
 cut_from-requires-clause-point g t c =
     let l = c.loop-point in
-    (popped c.args.program.now l.start (first_place c.args.from c.args.points.items) l.points.items c.pop.new.self.items c.pop.result c.in-Some.point c.pop.ensures.items c.in-Some.is l.invariant.points).is_point
+    (popped c.args.program.now l.start (first_place c.args.from c.args.points.now.items) l.points.items c.pop.new.self.items c.pop.result c.in-Some.point c.pop.ensures.items c.in-Some.is l.invariant.points).is_point
 
 pub cut_from-requires-clause-from : goal.cut_from-requires-clause-from
 cut_from-requires-clause-from g t c =
     let l = c.loop-point in
-    (popped c.args.program.now l.start (first_place c.args.from c.args.points.items) l.points.items c.pop.new.self.items c.pop.result c.in-Some.point c.pop.ensures.items c.in-Some.is l.invariant.points).after
+    (popped c.args.program.now l.start (first_place c.args.from c.args.points.now.items) l.points.items c.pop.new.self.items c.pop.result c.in-Some.point c.pop.ensures.items c.in-Some.is l.invariant.points).after
 
 pub cut_from-requires-clause-ready : goal.cut_from-requires-clause-ready
 cut_from-requires-clause-ready g t c =
     let program = c.args.program.now in
     let l = c.loop-point in
-    let whole = first_place c.args.from c.args.points.items in
+    let whole = first_place c.args.from c.args.points.now.items in
     let last = popped program l.start whole l.points.items c.pop.new.self.items c.pop.result c.in-Some.point c.pop.ensures.items c.in-Some.is l.invariant.points in
     ready_at program.listing whole c.in-Some.point.walk.place l.found l.invariant.ready (omega (arith, records_before-earlier program.listing c.in-Some.point.walk.place whole last.within, l.invariant.ready.lists.enough))
 
@@ -62,7 +62,7 @@ pub returns-in_err-parts-clause-some : goal.returns-in_err-parts-clause-some
 returns-in_err-parts-clause-some g t c =
     let program = c.args.program.now in
     let l = c.loop-point in
-    let whole = first_place c.args.from c.args.points.items in
+    let whole = first_place c.args.from c.args.points.now.items in
     let last = popped program l.start whole l.points.items c.pop.new.self.items c.pop.result c.in-Some.point c.pop.ensures.items c.in-Some.is l.invariant.points in
     on_err_any c.from_residual.result
     (some-first c.args.sink.now l.sink c.args.out.now l.out (text_between program.listing c.args.from l.start) (text_between program.listing l.start whole) _
@@ -72,7 +72,7 @@ pub write_parts-requires : goal.write_parts-requires
 write_parts-requires g t c κs now =
     let program = c.args.program.now in
     let l = c.loop-point in
-    let whole = first_place c.args.from c.args.points.items in
+    let whole = first_place c.args.from c.args.points.now.items in
     let last = popped program l.start whole l.points.items c.pop.new.self.items c.pop.result c.in-Some.point c.pop.ensures.items c.in-Some.is l.invariant.points in
     let part = c.in_ok-parts.ensures.parts in
     let cut = cut_before program l.start _ _ c.in_ok-parts.parts last.after part in (
@@ -102,7 +102,7 @@ pub returns-in_err-write_parts-clause-some : goal.returns-in_err-write_parts-cla
 returns-in_err-write_parts-clause-some g t c =
     let program = c.args.program.now in
     let l = c.loop-point in
-    let whole = first_place c.args.from c.args.points.items in
+    let whole = first_place c.args.from c.args.points.now.items in
     let last = popped program l.start whole l.points.items c.pop.new.self.items c.pop.result c.in-Some.point c.pop.ensures.items c.in-Some.is l.invariant.points in
     let inner = first_place l.start c.in_ok-parts.parts.points.items in
     let cut = cut_before program l.start _ _ c.in_ok-parts.parts last.after c.in_ok-parts.ensures.parts in
@@ -115,7 +115,7 @@ loop-point-preserved g t c =
     let program = c.args.program.now in
     let l = c.loop-point in
     let point = c.in-Some.point in
-    let whole = first_place c.args.from c.args.points.items in
+    let whole = first_place c.args.from c.args.points.now.items in
     let last = popped program l.start whole l.points.items c.pop.new.self.items c.pop.result point c.pop.ensures.items c.in-Some.is l.invariant.points in
     let part = c.in_ok-parts.ensures.parts in
     let inner = first_place l.start c.in_ok-parts.parts.points.items in
@@ -133,3 +133,39 @@ loop-point-preserved g t c =
       pushed = Pushes-as c.args.sink.now c.push_to.new.sink c.args.out.now c.push_to.new.out _ _ ((ap (λ bytes. text_between program.listing c.args.from l.start ++ (text_between program.listing l.start inner ++ bytes)) end ∙ text_between-three program.listing c.args.from l.start inner point.walk.place l.invariant.from cut.0 (omega (arith, cut.1))) ∙ ap (text_between program.listing c.args.from) (sym c.place-end.ensures))
           (Pushes-trans l.invariant.pushed (Pushes-trans c.in_ok-write_parts.ensures.text c.push_to.ensures));
     }
+
+pub returns-then-has_failed-clause-tracker : goal.returns-then-has_failed-clause-tracker
+returns-then-has_failed-clause-tracker g t c = c.loop-point.invariant.tracker
+
+pub returns-then-has_failed-clause-ready : goal.returns-then-has_failed-clause-ready
+returns-then-has_failed-clause-ready g t c = c.loop-point.invariant.ready
+
+pub returns-then-has_failed-clause-known : goal.returns-then-has_failed-clause-known
+returns-then-has_failed-clause-known g t c = c.loop-point.invariant.known
+
+pub returns-then-has_failed-clause-none : goal.returns-then-has_failed-clause-none
+returns-then-has_failed-clause-none g t c = c.loop-point.invariant.none
+
+pub returns-then-has_failed-clause-store : goal.returns-then-has_failed-clause-store
+returns-then-has_failed-clause-store g t c = c.loop-point.invariant.store
+
+pub returns-clause-tracker : goal.returns-clause-tracker
+returns-clause-tracker g t c = c.loop-point.invariant.tracker
+
+pub returns-clause-ready : goal.returns-clause-ready
+returns-clause-ready g t c = c.loop-point.invariant.ready
+
+pub returns-clause-known : goal.returns-clause-known
+returns-clause-known g t c = c.loop-point.invariant.known
+
+pub returns-clause-none : goal.returns-clause-none
+returns-clause-none g t c = c.loop-point.invariant.none
+
+pub returns-clause-store : goal.returns-clause-store
+returns-clause-store g t c = c.loop-point.invariant.store
+
+pub cut_from-requires-clause-none : goal.cut_from-requires-clause-none
+cut_from-requires-clause-none g t c = c.loop-point.invariant.none
+
+pub cut_from-requires-clause-tracker : goal.cut_from-requires-clause-tracker
+cut_from-requires-clause-tracker g t c = c.loop-point.invariant.tracker

@@ -21,4 +21,4 @@ abbrev pub decreases-loop-point : goal.decreases-loop-point
 decreases-loop-point g l = length l.points.items
 
 abbrev pub decreases-write_parts : goal.decreases-write_parts
-decreases-write_parts g l = first_place l.from l.points.items - l.from
+decreases-write_parts g l = first_place l.from l.points.now.items - l.from

@@ -15,7 +15,7 @@ use Rattle.backward.proofs.writing.push_parts.Goals as goal
 pub write_parts-requires-clause-points : goal.write_parts-requires-clause-points
 write_parts-requires-clause-points g c =
     let part = c.requires.parts in
-    subst (λ k. ArePoints c.args.program.now 0 k c.args.parts.points.items) (sym part.points.first) part.points
+    subst (λ k. ArePoints c.args.program.now 0 k c.args.parts.now.points.items) (sym part.points.first) part.points
 
 pub write_parts-requires-clause-tracker : goal.write_parts-requires-clause-tracker
 write_parts-requires-clause-tracker g c =
@@ -26,7 +26,7 @@ pub write_parts-requires-clause-ready : goal.write_parts-requires-clause-ready
 write_parts-requires-clause-ready g c =
     let program = c.args.program.now.listing in
     let part = c.requires.parts in
-    ready_first program (first_place 0 c.args.parts.points.items) _ c.args.found.now _ c.requires.first c.requires.passed
+    ready_first program (first_place 0 c.args.parts.now.points.items) _ c.args.found.now _ c.requires.first c.requires.passed
     (omega (arith, part.enough, ap (records_before program) part.points.first))
     refl (c.random_target.ensures.keeps ∙ c.requires.keeps) c.random_target.ensures.known c.random_target.ensures.lists
 
@@ -47,7 +47,7 @@ pub returns-in_err-write_parts-in-None : goal.returns-in_err-write_parts-in-None
 returns-in_err-write_parts-in-None g c =
     let program = c.args.program.now.listing in
     let part = c.requires.parts in
-    let inner = first_place 0 c.args.parts.points.items in
+    let inner = first_place 0 c.args.parts.now.points.items in
     let within : inner ≤ length program.steps = omega (arith, part.points.first, part.below) in
     failed_answer (err_from_is_err_and c.from_residual-in_err-write_parts-in-None.result c.from_residual-in_err-write_parts-in-None.ensures.1).1
     (inr (
@@ -60,7 +60,7 @@ pub returns-in_ok-write_parts-in-None : goal.returns-in_ok-write_parts-in-None
 returns-in_ok-write_parts-in-None g c =
     let program = c.args.program.now.listing in
     let part = c.requires.parts in
-    let inner = first_place 0 c.args.parts.points.items in
+    let inner = first_place 0 c.args.parts.now.points.items in
     let within : inner ≤ length program.steps = omega (arith, part.points.first, part.below) in
     let end = part.text ∙ ap (λ k. text_between program k (length program.steps)) (sym part.points.first) in
     record {

@@ -1,7 +1,19 @@
 use Rattle.std.proofs.Common.{◌<◌, length, sym, ◌∙◌, arith}
 use Rattle.std.proofs.lemmas.List.{set_comm}
-use Rattle.trackers.proofs.PairLemmas.{both_ok, made, parts_of}
+use Rattle.trackers.proofs.PairLemmas.{both_ok, fits_none, made, parts_of, split_inside}
 use Rattle.trackers.proofs.pairs.multiply_pair.Goals as goal
+
+pub offset_bounds-0 : goal.offset_bounds-0
+offset_bounds-0 g c = fits_none _
+
+pub offset_bounds-0-else-a-b : goal.offset_bounds-0-else-a-b
+offset_bounds-0-else-a-b g c = fits_none _
+
+pub split_at_mut-front-requires : goal.split_at_mut-front-requires
+split_at_mut-front-requires g c = split_inside _ _ c.requires.places.second
+
+pub split_at_mut-front-requires-else-a-b : goal.split_at_mut-front-requires-else-a-b
+split_at_mut-front-requires-else-a-b g c = split_inside _ _ c.requires.places.first
 
 pub bounds-front-a : goal.bounds-front-a
 bounds-front-a g c =

@@ -1,4 +1,4 @@
-use Rattle.std.proofs.Common.{◌≡◌, ◌++◌, ◌∷◌, drop, ap, sym, ◌∙◌, arith, append_assoc}
+use Rattle.std.proofs.Common.{◌++◌, drop, ap, sym, ◌∙◌, append_assoc}
 use Rattle.std.specs.Prelude.{codes, decimal}
 use Rattle.error_models.specs.ModelText.{coordinates_text, detector_text}
 use Rattle.error_models.specs.private.DetectorEnds.{end_text}

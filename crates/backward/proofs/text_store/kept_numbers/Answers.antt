@@ -3,7 +3,7 @@ use Rattle.std.proofs.lemmas.List.{get_or_default}
 use Rattle.step_model.specs.declared.chances.ChanceText.{ChanceText}
 use Rattle.backward.specs.private.Numbered.{AreNumbers}
 use Rattle.backward.proofs.NumberedLemmas.{numbers_kept, numbers_more}
-use Rattle.backward.proofs.text_store.keep_each.Goals as goal
+use Rattle.backward.proofs.text_store.kept_numbers.Goals as goal
 
 pub loop-part-preserved : goal.loop-part-preserved
 loop-part-preserved g c =

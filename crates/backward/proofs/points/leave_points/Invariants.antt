@@ -2,7 +2,7 @@ use Rattle.std.proofs.Common.{◌≡◌, ◌<◌, ◌≤◌}
 use Rattle.std.specs.Prelude.{All}
 use Rattle.backward.specs.private.Passes.{IsPassed, Stays}
 use Rattle.backward.proofs.PointLemmas.{OnWay}
-use Rattle.backward.proofs.points.leave_on_way.Given as goal
+use Rattle.backward.proofs.points.leave_points.Given as goal
 
 abbrev pub invariant-loop-at : goal.invariant-loop-at
 invariant-loop-at g l =

@@ -1,21 +1,22 @@
-use Rattle.std.proofs.Common.{◌<◌, ◌≤◌, inl, inr, length, get_or, refl, ap, subst, sym, ◌∙◌, arith}
+use Rattle.std.proofs.Common.{◌≡◌, ◌<◌, ◌≤◌, [], inl, inr, length, get_or, refl, ap, subst, sym, ◌∙◌, rules, arith}
 use Rattle.std.specs.Prelude.{All}
 use Rattle.backward.specs.private.Points.{ArePoints}
 use Rattle.backward.proofs.PointLemmas.{end_of_way, kept_on_way, left_behind, left_on_way, step_before}
 use Rattle.backward.proofs.StepLemmas.{stays_as, stays_on}
-use Rattle.backward.proofs.points.leave_on_way.Goals as goal
-use Rattle.backward.proofs.points.leave_on_way.Goals.{then-place-next+in_ok-leave, else-place-next}
+use Rattle.backward.proofs.points.leave_points.Goals as goal
+use Rattle.backward.proofs.points.leave_points.Goals.{then-place-next+in_ok-leave, else-place-next}
 
 pub loop-at-init : goal.loop-at-init
 loop-at-init g c =
+    let none : c.new-points.result.items ≡ [] = search rules in
     record {
       program_is = refl;
       above = c.requires.from;
       below = omega arith;
       passed = c.requires.passed;
       stays = stays_as refl refl refl;
-      points = inl (refl, (c.requires.none, omega (arith, c.place-next.ensures)));
-      behind = λ k d lt. absurd (omega (arith, lt, ap length c.requires.none));
+      points = inl (refl, (none, omega (arith, c.place-next.ensures)));
+      behind = λ k d lt. absurd (omega (arith, lt, ap length none));
     }
 
 pub loop-at-preserved : goal.loop-at-preserved

@@ -1,16 +1,17 @@
-use Rattle.std.proofs.Common.{refl, ◌∙◌}
+use Rattle.std.proofs.Common.{refl, ap, sym, ◌∙◌}
 use Rattle.std.proofs.lemmas.Result.{on_ok_weaker}
+use Rattle.gate_table.specs.declared.gate.Gate.{Gate}
 use Rattle.gate_table.specs.declared.gate.Gate.TheVariants.{CX}
 use Rattle.pauli_word.specs.declared.letter.Letter.TheVariants.{I, X, Z}
-use Rattle.trackers.specs.Tracked.{undone_two}
+use Rattle.trackers.specs.Tracked.{each_word, undone_two}
 use Rattle.trackers.specs.declared.images.PairImages.{PairImages}
 use Rattle.trackers.specs.private.PairImages.{AreBefore}
 use Rattle.trackers.specs.private.Transposed.{multiplied_at}
 use Rattle.trackers.proofs.MultiplyLemmas.{undone-multiplied, each_word-same}
-use Rattle.trackers.proofs.words.Words.undo_cx.Goals as goal
+use Rattle.trackers.proofs.words.WordsTracker.undo2.Goals as goal
 
-pub returns : goal.returns
-returns g c =
+pub returns-in-CX : goal.returns-in-CX
+returns-in-CX g c =
     let a = c.args.a in
     let b = c.args.b in
     let images : PairImages = record { first_own = (X, Z); first_other = (I, Z); second_own = (X, Z); second_other = (X, I) } in
@@ -18,5 +19,6 @@ returns g c =
     on_ok_weaker c.multiply.result
     (λ h. h
     ∙ each_word-same (multiplied_at a b (I, Z) (X, I)) (undone_two CX a b) c.args.self.now
-    (λ w. undone-multiplied CX a b images w are (refl, refl) (refl, refl)))
+    (λ w. undone-multiplied CX a b images w are (refl, refl) (refl, refl))
+    ∙ ap (λ (gate : Gate). each_word (undone_two gate a b) c.args.self.now) (sym c.in-CX.is))
     c.multiply.ensures

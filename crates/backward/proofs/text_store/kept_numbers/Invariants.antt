@@ -1,6 +1,6 @@
 use Rattle.std.proofs.Common.{◌≡◌, length}
 use Rattle.backward.specs.private.Numbered.{AreNumbers}
-use Rattle.backward.proofs.text_store.keep_each.Given as goal
+use Rattle.backward.proofs.text_store.kept_numbers.Given as goal
 
 -- the texts of the parts before this one are kept
 abbrev pub invariant-loop-part : goal.invariant-loop-part
