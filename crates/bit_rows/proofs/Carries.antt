@@ -146,18 +146,12 @@ odd_more first second odd n e =
     ∙ same_remainder_add 2 (word_ones odd) (common_ones first second n) (word_common (get_or first n 0) (get_or second n 0)) (word_common (get_or first n 0) (get_or second n 0)) e refl
     ∙ ap (λ s. s % 2) (sym (common_ones-suc first second n))
 
-pub odd_none : (first second : List ℕ) → word_ones 0 % 2 ≡ common_ones first second 0 % 2
-odd_none first second = ap (λ s. s % 2) (word_ones-zero ∙ sym (common_ones-zero first second))
-
 pub power_more : (xa za xb zb : List ℕ) (held held' n : ℕ) → held % 4 ≡ words_phase xa za xb zb n % 4
     → held' % 4 ≡ (held + word_phase (get_or xa n 0) (get_or za n 0) (get_or xb n 0) (get_or zb n 0)) % 4
     → held' % 4 ≡ words_phase xa za xb zb (n + 1) % 4
 power_more xa za xb zb held held' n e step =
     let here = word_phase (get_or xa n 0) (get_or za n 0) (get_or xb n 0) (get_or zb n 0) in
     step ∙ same_remainder_add 4 held (words_phase xa za xb zb n) here here e refl ∙ ap (λ s. s % 4) (sym (words_phase-suc xa za xb zb n))
-
-pub power_none : (xa za xb zb : List ℕ) → carried 0 0 % 4 ≡ words_phase xa za xb zb 0 % 4
-power_none xa za xb zb = ap (λ s. s % 4) (carried-zero ∙ sym (words_phase-zero xa za xb zb))
 
 -- a power carried beside the carry words
 pub carried_after : (before held held' word : ℕ) → held' % 4 ≡ (held + word) % 4 → (before + held') % 4 ≡ (before + held + word) % 4

@@ -23,11 +23,6 @@ pub bit_in_is : (words : List ℕ) (place : ℕ) → bit_in words place ≡ bit_
 unfolding bit_in
 bit_in_is words place = refl
 
--- words that agree at each index hold the same bits
-pub bit_in_same : (words others : List ℕ) → ((k : ℕ) → get_or words k 0 ≡ get_or others k 0) → (place : ℕ) → bit_in words place ≡ bit_in others place
-unfolding bit_in
-bit_in_same words others same place = ap (λ w. bit_of w (place % 64)) (same (place / 64))
-
 pub bit_in_zeros : (words : List ℕ) → ((k : ℕ) → get_or words k 0 ≡ 0) → (place : ℕ) → bit_in words place ≡ false
 unfolding bit_in
 bit_in_zeros words zeros place = ap (λ w. bit_of w (place % 64)) (zeros (place / 64)) ∙ bit_of-zero (place % 64)
@@ -82,10 +77,6 @@ get_or-row_of n words i h = get_or-map-range_with_len (bit_in words) 0 n i i fal
 pub row_from_bits : (n : ℕ) (words : List ℕ) (row : List Bool) → length row ≡ n → ((i : ℕ) → i < n → get_or row i false ≡ bit_in words i) → row ≡ row_of n words
 unfolding row_of
 row_from_bits n words row long each = fill_by_all (bit_in words) row n false long each
-
-pub row_of_same : (n : ℕ) (words others : List ℕ) → ((i : ℕ) → i < n → bit_in words i ≡ bit_in others i) → row_of n words ≡ row_of n others
-row_of_same n words others same =
-    row_from_bits n others (row_of n words) (length-row_of n words) (λ i h. get_or-row_of n words i h ∙ same i h)
 
 pub row_of_zeros : (n : ℕ) (words : List ℕ) → ((i : ℕ) → i < n → bit_in words i ≡ false) → row_of n words ≡ replicate n false
 row_of_zeros n words none =

@@ -110,5 +110,3 @@ IsPieceAt-read ends items {lists} {index} {start} {end} view are below start_is 
 
 -- what each method's goals take
 pub ruleset counts = (length-cut)
-
-pub ruleset pieces = (length-cut, IsPieceAt-read)

@@ -19,10 +19,6 @@ get_or-joined long (s ∷ ss) [] (suc k) below = get_or-joined long ss [] k (ome
 get_or-joined long (s ∷ ss) (t ∷ ts) zero below = refl
 get_or-joined long (s ∷ ss) (t ∷ ts) (suc k) below = get_or-joined long ss ts k (omega (arith, below))
 
-get_or-none : {T : Type 0} (k : ℕ) → get_or {A = List T} [] k [] ≡ []
-get_or-none zero = refl
-get_or-none (suc k) = refl
-
 -- a list behind those of which more is kept
 pub get_or-short : {S T : Type 0} (long : S → T) (ss : List (List S)) (ts : List (List T)) (k : ℕ) → k < length ss → length ts ≤ k → get_or (joined long ss ts) k [] ≡ map long (get_or ss k [])
 get_or-short long [] ts k below behind = absurd (omega (arith, below))

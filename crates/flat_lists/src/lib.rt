@@ -124,7 +124,6 @@ impl<T: Copy, A: Allocator + Copy> FlatLists<T, A> {
 
     /// The list at an index.
     #[inline(always)]
-    #[tactic(auto, using(crate::proofs::CutLemmas::pieces))]
     pub fn get(&self, index: usize) -> &[T]
         requires { index < length self.now }
         ensures item { slice_get self.now index ≡ Some result.now }

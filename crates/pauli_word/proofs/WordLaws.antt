@@ -106,7 +106,3 @@ anticommute-product (a ∷ p) (b ∷ q) [] h = refl
 anticommute-product (a ∷ p) (b ∷ q) (c ∷ r) h =
     ap₂ exclusive_or (letters_clash-product a b c) (anticommute-product p q r (suc_inj h))
     ∙ exclusive_or_middle (letters_clash a c) (letters_clash b c) (anticommute p r) (anticommute q r)
-
--- one place more, for a loop that goes over the qubits
-pub anticommute-drop : (p q : List Letter) (i : ℕ) (a b : Letter) → drop i p ≡ a ∷ drop (suc i) p → drop i q ≡ b ∷ drop (suc i) q → anticommute (drop i p) (drop i q) ≡ exclusive_or (letters_clash a b) (anticommute (drop (suc i) p) (drop (suc i) q))
-anticommute-drop p q i a b h k = ap₂ anticommute h k

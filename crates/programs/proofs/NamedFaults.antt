@@ -29,25 +29,3 @@ named_fault program name well named =
       word = word_of_effect program.listing.qubits (effect_at program.listing name.number) ∙ ap (word_of_terms program.listing.qubits) terms;
       terms_fit = well.kept_fit name.entry none_kept named.entry;
     }
-
--- a step that is a fault applies its word
-applied_terms : (effect : Effect) → applies_word effect ≡ true → effect ≡ Applies (effect_terms effect)
-applied_terms (Applies terms) h = refl
-applied_terms (Flips r) h = cc
-
-pub effect_of_fault : (program : Listing) (f : ℕ) → step_fits program (Fault f) ≡ true → effect_at program f ≡ Applies (effect_terms (effect_at program f))
-effect_of_fault program f fits =
-    applied_terms (effect_at program f) (and_parts (nat_lt f (length program.faults)) (applies_word (effect_at program f)) fits).1
-
--- and a recorded flip flips its record
-flipped : (r : ℕ) (effect : Effect) → flips_record r effect ≡ true → effect ≡ Flips r
-flipped r (Applies terms) h = cc
-flipped r (Flips s) h = let same : r ≡ s = eqb-true r s h in ap Flips (sym same)
-
-pub effect_of_flip : (program : Listing) (m : Measured) (r : Recorded) (f : ℕ) → step_fits program (Collapse m (Some r)) ≡ true → r.flip ≡ Some f → effect_at program f ≡ Flips r.number
-effect_of_flip program m r f fits is =
-    let flips : flip_fits program r.number (Some f) ≡ true =
-    sym (ap (flip_fits program r.number) is)
-    ∙ (and_parts (measured_fits program.qubits m) (record_fits program (Some r)) fits).1 in
-    flipped r.number (effect_at program f)
-    (and_parts (nat_lt f (length program.faults)) (flips_record r.number (effect_at program f)) flips).1

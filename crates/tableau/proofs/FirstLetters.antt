@@ -69,11 +69,6 @@ after_word-set (b ∷ w) (s ∷ rows) zero a r h e at =
     ap (λ t. pair_after a t ∷ after_word w rows) (at ∙ ap (λ t. pair_after t s) e)
 after_word-set (b ∷ w) (s ∷ rows) (suc i) a r h e at = ap (λ l. pair_after b s ∷ l) (after_word-set w rows i a r (omega arith) e at)
 
-pub length-after_word : (w : List Letter) (rows : List Pair) → length (after_word w rows) ≡ length rows
-length-after_word [] rows = refl
-length-after_word (a ∷ w) [] = refl
-length-after_word (a ∷ w) (r ∷ rows) = ap suc (length-after_word w rows)
-
 -- a turn of the loop that applies letters
 pub letter_applied : (w : List Letter) (rows so_far : List Pair) (i : ℕ) → i < length w → so_far ≡ after_word (first_letters i w) rows → (r : Pair) → r ≡ get_or so_far i r → (a : Letter) → a ≡ letter_at w i → (new : Pair) → new ≡ pair_after a r → set so_far i new ≡ after_word (first_letters (i + 1) w) rows
 letter_applied w rows so_far i h e r r_is a a_is new new_is =
