@@ -1,9 +1,8 @@
 -- What a fault that a step names is: what is kept at the entry that it is named with.
-use Rattle.std.proofs.Common.{◌≡◌, ℕ, true, nat_lt, length, Some, refl, sym, ap, ◌∙◌}
-use Rattle.std.proofs.lemmas.Bool.{and_parts, eqb-true}
-use Rattle.step_model.specs.Listing.{Listing, Fault, Collapse, Measured, Recorded, Effect, Applies, Flips, fault_at, effect_at, effect_word, fault_word, word_of_terms}
+use Rattle.std.proofs.Common.{◌≡◌, ℕ, refl, sym, ap, ◌∙◌}
+use Rattle.step_model.specs.Listing.{Effect, Applies, Flips, fault_at, effect_at, effect_word, fault_word, word_of_terms}
 use Rattle.programs.specs.Kept.{KeptProgram, IsWellKept, none_kept, kept_at, effect_terms}
-use Rattle.step_model.specs.WellFormed.{TermsFit, step_fits, applies_word, flips_record, flip_fits, measured_fits, record_fits}
+use Rattle.step_model.specs.WellFormed.{TermsFit}
 use Rattle.programs.specs.declared.step.FaultName.{FaultName}
 use Rattle.programs.specs.Named.{IsNamed}
 
