@@ -5,6 +5,9 @@ use Rattle.flat_lists.proofs.FlatLists.push.Goals as goal
 pub invariant_of-self : goal.invariant_of-self
 invariant_of-self g c = rw c.reserve.ensures.items c.self.invariant
 
+pub invariant_of-self-in_err-extend_from_slice : goal.invariant_of-self-in_err-extend_from_slice
+invariant_of-self-in_err-extend_from_slice g c = rw (c.reserve.ensures.items, c.in_err-extend_from_slice.ensures.items) c.self.invariant
+
 pub invariant_of-self-2 : goal.invariant_of-self-2
 invariant_of-self-2 g c =
     let items = c.self.inside.items.items in
