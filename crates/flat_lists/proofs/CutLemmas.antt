@@ -1,5 +1,5 @@
 -- How many pieces a cut has, which piece is at an index, and one more piece at the end.
-use Rattle.std.proofs.Common.{◌≡◌, ℕ, ◌+◌, ◌-◌, ◌<◌, ◌≤◌, zero, suc, List, [], ◌∷◌, ◌++◌, length, get_or, take, drop, Some, refl, sym, ap, ◌∙◌, arith, length-append, slice_get}
+use Rattle.std.proofs.Common.{◌≡◌, ℕ, ◌+◌, ◌-◌, ◌<◌, ◌≤◌, zero, suc, List, [], ◌∷◌, ◌++◌, length, get_or, take, drop, Some, refl, sym, ap, ◌∙◌, arith, slice_get}
 use Rattle.std.specs.Prelude.{slice_range}
 use Rattle.std.proofs.lemmas.List.{drop_at, drop-append-le, take-append-drop, take-append-le, take_all, length-drop, length-take, get_or_read}
 use Rattle.flat_lists.specs.private.Cuts.{cut, AreEnds}
@@ -110,7 +110,3 @@ IsPieceAt-read ends items {lists} {index} {start} {end} view are below start_is 
 
 -- what each method's goals take
 pub ruleset counts = (length-cut)
-
-pub ruleset pushes = (length-append, AreEnds-push, cut-push)
-
-pub ruleset pieces = (length-cut, IsPieceAt-read)

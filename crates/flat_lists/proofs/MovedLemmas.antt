@@ -2,7 +2,7 @@
 use Rattle.std.proofs.Common.{◌≡◌, ℕ, zero, suc, ◌+◌, ◌-◌, ◌<◌, ◌≤◌, List, [], ◌∷◌, ◌++◌, length, get_or, take, drop, map, refl, sym, ap, ap₂, subst, ◌∙◌, append_assoc, arith, length-append, length-drop}
 use Rattle.std.specs.Prelude.{All, slice_range, ◌^◌}
 use Rattle.std.proofs.Math.Seq.{take-add}
-use Rattle.std.proofs.lemmas.List.{drop-append-le, drop-drop, drop-map, drop-take, get_or-drop, get_or-take, get_or_append_left, get_or_read, length-map, length-take-le, map_more, take-append-le, take-map}
+use Rattle.std.proofs.lemmas.List.{drop-drop, drop-map, drop-take, get_or-drop, get_or-take, get_or_append_left, get_or_read, length-map, length-take-le, map_more, take-map}
 use Rattle.std.proofs.lemmas.List.Elements.{All-append}
 use Rattle.flat_lists.specs.private.Cuts.{cut, AreEnds}
 use Rattle.flat_lists.proofs.CutLemmas.{length-cut, slice_range-append_left, start_le_count}

@@ -1,8 +1,8 @@
 -- Bytes that numbers were written into give these numbers back.
-use Rattle.std.proofs.Common.{◌≡◌, ℕ, suc, ◌+◌, ◌*◌, ◌/◌, ◌%◌, ◌^◌, ◌<◌, ◌≤◌, Bool, if◌then◌else◌, ℤ, pos, negsuc, List, [], ◌∷◌, ◌++◌, length, reverse, take, get_or, ap, ◌∙◌, arith}
+use Rattle.std.proofs.Common.{◌≡◌, ℕ, suc, ◌+◌, ◌*◌, ◌/◌, ◌%◌, ◌^◌, ◌<◌, ◌≤◌, Bool, if◌then◌else◌, ℤ, pos, negsuc, List, [], ◌∷◌, ◌++◌, length, reverse, take, get_or, map, sym, ap, ◌∙◌, arith}
 use Rattle.std.proofs.Math.Seq.{take-suc}
 use Rattle.std.proofs.lemmas.Bool.{eq-eqb, ne_eqb, lt-ltb, le-ltb}
-use Rattle.std.proofs.lemmas.List.{reverse-append}
+use Rattle.std.proofs.lemmas.List.{get_or-map, length-map, reverse-append}
 use Rattle.flat_lists.specs.private.Numbers.{folded, numbers_from, numbers_in, unfolded, with_group}
 
 pub unfolded-folded : (z : ℤ) → unfolded (folded z) ≡ z
@@ -58,3 +58,24 @@ ends-next n bytes left k is within low =
     ∙ ap (λ (xs : List ℕ). numbers_from n (reverse xs)) (take-suc bytes k 0 there)
     ∙ ap (λ (xs : List ℕ). numbers_from n xs) (reverse-push (take k bytes) byte)
     ∙ numbers_from-ends n byte (reverse (take k bytes)) low
+
+-- and where the byte doesn't end it
+pub goes_on-next : (n : ℕ) (bytes : List ℕ) (left k : ℕ) → left ≡ suc k → left ≤ length bytes → 128 ≤ get_or bytes k 0
+    → numbers_from n (reverse (take left bytes)) ≡ numbers_from (with_group n (get_or bytes k 0)) (reverse (take k bytes))
+goes_on-next n bytes left k is within high =
+    let byte = get_or bytes k 0 in
+    let there : k < length bytes = omega (arith, is, within) in
+    ap (λ m. numbers_from n (reverse (take m bytes))) is
+    ∙ ap (λ (xs : List ℕ). numbers_from n (reverse xs)) (take-suc bytes k 0 there)
+    ∙ ap (λ (xs : List ℕ). numbers_from n xs) (reverse-push (take k bytes) byte)
+    ∙ numbers_from-goes_on n byte (reverse (take k bytes)) high
+
+-- the list at an index
+pub list-there : (lists : List (List ℕ)) (all : List (List ℤ)) (index : ℕ) → map numbers_in lists ≡ all → index < length all → index < length lists
+list-there lists all index view below = omega (arith, length-map lists numbers_in, ap length view, below)
+
+pub list-read : (lists : List (List ℕ)) (all : List (List ℤ)) (index : ℕ) (bytes : List ℕ) → map numbers_in lists ≡ all → index < length all → bytes ≡ get_or lists index [] → numbers_in bytes ≡ get_or all index []
+list-read lists all index bytes view below read =
+    ap numbers_in read
+    ∙ sym (get_or-map numbers_in lists index [] [] (list-there lists all index view below))
+    ∙ ap (λ (ls : List (List ℤ)). get_or ls index []) view

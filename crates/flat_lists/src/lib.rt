@@ -90,7 +90,6 @@ impl<T: Copy, A: Allocator + Copy> FlatLists<T, A> {
     }
 
     /// Appends a copy of the list. It fails only where memory runs out, or where there would be 2^32 items or more.
-    #[tactic(auto, using(crate::proofs::CutLemmas::pushes))]
     pub fn push(&mut self, list: &[T]) -> Result<(), AllocError>
         ensures ok { OnOk result (self.new ≡ self.old ++ list.now ∷ []) }
         ensures err { OnErr result (self.new ≡ self.old) }
@@ -125,7 +124,6 @@ impl<T: Copy, A: Allocator + Copy> FlatLists<T, A> {
 
     /// The list at an index.
     #[inline(always)]
-    #[tactic(auto, using(crate::proofs::CutLemmas::pieces))]
     pub fn get(&self, index: usize) -> &[T]
         requires { index < length self.now }
         ensures item { slice_get self.now index ≡ Some result.now }

@@ -2,7 +2,7 @@ ghost use Rattle.std.specs.Prelude.{◌≡◌, ℕ, ◌<◌, ◌≤◌, ◌^◌,
 ghost use Rattle.std.specs.List.{AllWithin};
 ghost use Rattle.std.specs.List.Sorted.{IsNonDecreasingBy};
 ghost use Rattle.flat_lists.specs.Turns.{later, moved_by};
-ghost use Rattle.flat_lists.specs.private.Repeats.{AreRepeats, unrolled};
+ghost use Rattle.flat_lists.specs.private.Repeats.{AreRepeats, unrolled, with_steps};
 
 use crate::end_after;
 use crate::packed_lists::PackedLists;
@@ -118,16 +118,14 @@ impl<A: Allocator + Copy> NumberLists<A> {
             return Ok(());
         }
         let end = end_after(start, more as usize)?;
-        let number = end_after(self.kept.len(), 0)?;
-        let moves = moving(steps);
-        self.repeats.reserve(1)?;
-        self.kept.push(&steps[..moves])?;
-        self.repeats.push_reserved(Repeat {
+        let repeat = Repeat {
             first: first as u32,
             start: self.len,
             turns: turns as u32,
-            steps: number,
-        });
+            steps: 0,
+        };
+        let moves = moving(steps);
+        keep_turns(&mut self.kept, &mut self.repeats, repeat, &steps[..moves])?;
         self.len = end;
         Ok(())
     }
@@ -156,6 +154,30 @@ impl<A: Allocator + Copy> NumberLists<A> {
     {
         put_list(&self.kept, &self.repeats, index as u32, list);
     }
+}
+
+// Keeps the steps of a turn, and a repeat that names where they stand. Nothing changes where memory runs out.
+fn keep_turns<A: Allocator + Copy>(
+    kept: &mut PackedLists<A>,
+    repeats: &mut Vec<Repeat, A>,
+    repeat: Repeat,
+    steps: &[i64],
+) -> Result<(), AllocError>
+    requires { length steps.now ≤ MOST_NUMBERS }
+    ensures ok { OnOk result (kept.new ≡ kept.old ++ steps.now ∷ []) }
+    ensures named { OnOk result
+        (repeats.new.items ≡ repeats.old.items ++ with_steps repeat (length kept.old) ∷ []) }
+    ensures err { OnErr result (kept.new ≡ kept.old) }
+    ensures same { OnErr result (repeats.new.items ≡ repeats.old.items) }
+{
+    let number = end_after(kept.len(), 0)?;
+    repeats.reserve(1)?;
+    kept.push(steps)?;
+    repeats.push_reserved(Repeat {
+        steps: number,
+        ..repeat
+    });
+    Ok(())
 }
 
 // How many steps there are up to the last that isn't 0.

@@ -46,10 +46,12 @@ impl<T: Copy, A: Allocator + Copy> ListRooms<T, A> {
     {
         let mut ends = Vec::new(alloc);
         let end = push_ends(&mut ends, sizes)?;
+        let lengths = Vec::from_elem(alloc, 0, sizes.len())?;
+        let items = Vec::from_elem(alloc, blank, end as usize)?;
         Ok(ListRooms {
-            items: Vec::from_elem(alloc, blank, end as usize)?,
+            items,
             ends,
-            lengths: Vec::from_elem(alloc, 0, sizes.len())?,
+            lengths,
         })
     }
 

@@ -55,11 +55,15 @@ impl<'c, T: Copy, S: Short<T>> ShortList<'c, T, S> {
     {
         match self {
             ShortList::Short(items) => {
-                let (first, rest) = items.split_first()?;
+                let Some((first, rest)) = items.split_first() else {
+                    return None;
+                };
                 Some((first.lengthen(), ShortList::Short(rest)))
             }
             ShortList::Long(items) => {
-                let (first, rest) = items.split_first()?;
+                let Some((first, rest)) = items.split_first() else {
+                    return None;
+                };
                 Some((*first, ShortList::Long(rest)))
             }
         }

@@ -1,9 +1,8 @@
 -- What a fault that a step names is: what is kept at the entry that it is named with.
-use Rattle.std.proofs.Common.{◌≡◌, ℕ, true, refl, sym, ap, ◌∙◌}
-use Rattle.std.proofs.lemmas.Bool.{eqb-true}
+use Rattle.std.proofs.Common.{◌≡◌, ℕ, refl, sym, ap, ◌∙◌}
 use Rattle.step_model.specs.Listing.{Effect, Applies, Flips, fault_at, effect_at, effect_word, fault_word, word_of_terms}
 use Rattle.programs.specs.Kept.{KeptProgram, IsWellKept, none_kept, kept_at, effect_terms}
-use Rattle.step_model.specs.WellFormed.{TermsFit, flips_record}
+use Rattle.step_model.specs.WellFormed.{TermsFit}
 use Rattle.programs.specs.declared.step.FaultName.{FaultName}
 use Rattle.programs.specs.Named.{IsNamed}
 
@@ -29,8 +28,3 @@ named_fault program name well named =
       word = word_of_effect program.listing.qubits (effect_at program.listing name.number) ∙ ap (word_of_terms program.listing.qubits) terms;
       terms_fit = well.kept_fit name.entry none_kept named.entry;
     }
-
--- and a recorded flip flips its record
-flipped : (r : ℕ) (effect : Effect) → flips_record r effect ≡ true → effect ≡ Flips r
-flipped r (Applies terms) h = cc
-flipped r (Flips s) h = let same : r ≡ s = eqb-true r s h in ap Flips (sym same)

@@ -1,14 +1,18 @@
 -- Nodes as they are kept, and one block more.
-use Rattle.std.proofs.Common.{◌≡◌, ℕ, suc, ◌+◌, ◌<◌, List, [], ◌∷◌, ◌++◌, length, set, refl, ap, ap₂, ◌∙◌, arith}
-use Rattle.std.specs.Prelude.{All}
+use Rattle.std.proofs.Common.{◌≡◌, ℕ, suc, inl, inr, true, ◌+◌, ◌<◌, ◌≤◌, List, [], ◌∷◌, ◌++◌, length, get_or, set, refl, sym, ap, ap₂, ◌∙◌, arith}
+use Rattle.std.specs.Prelude.{All, None, Some, slice_get}
+use Rattle.std.specs.Option.{option_map}
 use Rattle.std.proofs.Math.Seq.{get_or-append_seam}
-use Rattle.std.proofs.lemmas.List.{get_or_append_left, map-append, map-set}
+use Rattle.std.proofs.lemmas.Bool.{cases_lt, false≢true}
+use Rattle.std.proofs.lemmas.List.{get_or_append_left, length-map, map-append, map-set}
+use Rattle.std.proofs.lemmas.Option.{slice_get-map, slice_get_past, slice_get_read}
 use Rattle.std.proofs.lemmas.List.Elements.{All-push, All-set, All-weaker}
 use Rattle.programs.specs.declared.kept_node.BlockSize.{BlockSize}
 use Rattle.programs.specs.declared.kept_node.KeptNode.{KeptNode}
 use Rattle.programs.specs.declared.kept_node.KeptNode.TheVariants as kept
 use Rattle.programs.specs.declared.node.Node.{Node}
 use Rattle.programs.specs.declared.node.Node.TheVariants.{Open, Close}
+use Rattle.programs.specs.Steps.{is_step}
 use Rattle.programs.specs.private.KeptNodes.{size_at, node_of, nodes_in, NamesBlockBelow}
 
 -- a node that names no block names one among however many
@@ -67,3 +71,22 @@ module _ (sizes : List BlockSize) (nodes : List KeptNode) (start b : ℕ) (size 
       (map-set (node_of (sizes ++ size ∷ [])) nodes start (kept.Open b)
       ∙ ap₂ (λ (xs : List Node) (s : BlockSize). set xs start (Open s.turns s.length)) (nodes_in-more sizes size nodes all) (size_is e))
       (size_is e)
+
+-- ---- the node at an index
+
+pub node_at : (sizes : List BlockSize) (nodes : List KeptNode) (all : List Node) (index : ℕ) (node : KeptNode) → nodes_in sizes nodes ≡ all → index < length nodes → node ≡ get_or nodes index node → slice_get all index ≡ Some (node_of sizes node)
+node_at sizes nodes all index node view below read =
+    ap (λ (ns : List Node). slice_get ns index) (sym view)
+    ∙ slice_get-map (node_of sizes) nodes index
+    ∙ ap (option_map (node_of sizes)) (slice_get_read nodes (length nodes) index node refl below read)
+
+pub no_node : (sizes : List BlockSize) (nodes : List KeptNode) (all : List Node) (index : ℕ) → nodes_in sizes nodes ≡ all → length nodes ≤ index → slice_get all index ≡ None
+no_node sizes nodes all index view past =
+    slice_get_past all index (omega (arith, past, ap length view, length-map nodes (node_of sizes)))
+
+pub step_inside : (sizes : List BlockSize) (nodes : List KeptNode) (all : List Node) (index : ℕ) → nodes_in sizes nodes ≡ all → is_step (slice_get all index) ≡ true → index < length nodes
+step_inside sizes nodes all index view step =
+    elim (cases_lt index (length nodes)) as (λ _. index < length nodes) [
+      | inl below ↦ below
+      | inr past ↦ absurd (false≢true (sym (ap is_step (no_node sizes nodes all index view past)) ∙ step))
+    ]

@@ -117,10 +117,9 @@ impl<A: Allocator + Copy> Nodes<A> {
     {
         let block = number_of(self.sizes.len())?;
 
-        // Room for both first, so that nothing changes where memory runs out.
-        self.sizes.reserve(1)?;
+        // Room for the end first, so that nothing changes where memory runs out.
         self.kept.reserve(1)?;
-        self.sizes.push_reserved(size);
+        self.sizes.push(size)?;
         self.kept[start] = KeptNode::Open(block);
         self.kept.push_reserved(KeptNode::Close(block));
         Ok(())

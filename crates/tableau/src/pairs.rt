@@ -39,7 +39,7 @@ pub(crate) fn start_pairs<A: Allocator + Copy>(
 {
     let mut rows = Vec::with_capacity(alloc, n)?;
     for qubit in 0..n {
-        rows.push(start_pair(alloc, n, qubit)?)?;
+        rows.push_reserved(start_pair(alloc, n, qubit)?);
     }
     Ok(rows)
 }

@@ -6,6 +6,10 @@ use Rattle.std.specs.List.Sorted.{IsNonDecreasingBy}
 use Rattle.flat_lists.specs.declared.number_lists.Repeat.{Repeat}
 use Rattle.flat_lists.specs.Turns.{later, moved_by}
 
+-- a repeat whose steps are kept at this number
+abbrev pub with_steps : Repeat → ℕ → Repeat
+with_steps r steps = record { first = r.first; start = r.start; turns = r.turns; steps = steps }
+
 -- the lists of a repeat's later turns, behind these lists
 abbrev pub turns_of : Repeat → List (List ℤ) → List (List ℤ) → List (List ℤ)
 turns_of r front kept = later (λ n. moved_by n (get_or kept r.steps [])) r.turns (drop r.first front)

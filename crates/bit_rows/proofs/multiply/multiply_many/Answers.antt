@@ -29,3 +29,18 @@ pub returns-clause-blank : goal.returns-clause-blank
 returns-clause-blank c =
     let end : c.loop-i.i ≡ length c.args.xa.now = omega arith in
     subst (BlanksBelow c.multiply_blocks-ones.result.2 c.loop-i.xa c.loop-i.za) end c.loop-i.invariant.blank
+
+pub bounds-xa-i : goal.bounds-xa-i
+bounds-xa-i c = omega (arith, c.loop-i.auto.xa, c.multiply_blocks-ones.auto.xa, c.loop-i-test.true, c.requires.long.xb_long)
+
+pub bounds-za-i : goal.bounds-za-i
+bounds-za-i c = omega (arith, c.loop-i.auto.za, c.multiply_blocks-ones.auto.za, c.loop-i-test.true, c.requires.long.xb_long, c.requires.long.za_long)
+
+pub bounds-xb-i : goal.bounds-xb-i
+bounds-xb-i c = c.loop-i-test.true
+
+pub bounds-zb-i : goal.bounds-zb-i
+bounds-zb-i c = omega (arith, c.loop-i-test.true, c.requires.long.xb_long, c.requires.long.zb_long)
+
+pub loop-i-smaller : goal.loop-i-smaller
+loop-i-smaller c = omega (arith, c.loop-i-test.true)

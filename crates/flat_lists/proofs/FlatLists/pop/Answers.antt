@@ -21,3 +21,11 @@ returns g c =
     let start : c.start_of-start.result ≡ get_or (0 ∷ ends) last 0 = rw c.deref.ensures.value at c.start_of-start.ensures in
     let same : length c.args.self.now - 1 ≡ last = omega (arith, count, c.len-last.ensures) in
     rw (same, c.truncate.ensures.items, c.truncate-2.ensures.items, start, ← c.self.view_is) (cut-pop 0 ends items last c.self.invariant there)
+
+pub start_of-start-requires : goal.start_of-start-requires
+start_of-start-requires g c =
+    omega (arith, c.requires, ap length c.self.view_is, length-cut 0 c.self.inside.ends.items c.self.inside.items.items, c.len-last.ensures, ap length c.deref.ensures.value)
+
+pub overflow_sub-last : goal.overflow_sub-last
+overflow_sub-last g c =
+    omega (arith, c.requires, ap length c.self.view_is, length-cut 0 c.self.inside.ends.items c.self.inside.items.items, c.len-last.ensures)

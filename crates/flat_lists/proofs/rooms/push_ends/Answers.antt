@@ -1,5 +1,5 @@
-use Rattle.std.proofs.Common.{◌≡◌, ◌+◌, ◌∷◌, [], ◌++◌, ℕ, List, get_or, take, sym, ap, ◌∙◌, append_assoc, arith}
-use Rattle.std.proofs.lemmas.List.{take_more}
+use Rattle.std.proofs.Common.{◌≡◌, ◌+◌, ◌∷◌, [], ◌++◌, ℕ, List, get_or, take, sym, refl, ap, ◌∙◌, append_assoc, append-nil, arith}
+use Rattle.std.proofs.lemmas.List.{take_all, take_more}
 use Rattle.flat_lists.specs.private.Rooms.{end_of, ends_from}
 use Rattle.flat_lists.proofs.RoomLemmas.{end_of-more, ends_from-more}
 use Rattle.flat_lists.proofs.rooms.push_ends.Goals as goal
@@ -21,4 +21,15 @@ loop-size-preserved g c =
           ∙ ap (λ (xs : List ℕ). c.args.ends.now.items ++ xs) (sym (ends_from-more 0 front size))
           ∙ ap (λ (xs : List ℕ). c.args.ends.now.items ++ ends_from 0 xs) (sym more);
       last = end ∙ sym (end_of-more 0 front size) ∙ ap (end_of 0) (sym more);
+    }
+
+pub loop-size-init : goal.loop-size-init
+loop-size-init g c = record { ends = sym (append-nil c.args.ends.now.items); last = refl }
+
+pub returns : goal.returns
+returns g c =
+    let all = take_all c.loop-size.size-index c.args.sizes.now c.loop-size-test.false in
+    record {
+      ends = c.loop-size.invariant.ends ∙ ap (λ (xs : List ℕ). c.args.ends.now.items ++ ends_from 0 xs) all;
+      last = c.loop-size.invariant.last ∙ ap (end_of 0) all;
     }

@@ -1,5 +1,6 @@
 -- The pairs are read and written through the two parts into which the rows are split.
-use Rattle.std.proofs.Common.{ℕ, ◌*◌, ◌<◌, ◌≤◌, ◌++◌, Fits, w64, set, slice_index_or, ap₂, sym, ◌∙◌, arith, rules}
+use Rattle.std.proofs.lemmas.Nat.{mul-le}
+use Rattle.std.proofs.Common.{ℕ, ◌*◌, ◌^◌, ◌<◌, length, ◌≤◌, ◌++◌, Fits, w64, set, slice_index_or, ap₂, sym, ◌∙◌, arith, rules}
 use Rattle.tableau.proofs.ControlledRows.{AreRead, back_inside, comes_after, front_inside, parts_set, set_swapped, read_ahead, read_behind, first_there, second_there, commute_there, made_there}
 use Rattle.tableau.proofs.controlled.multiply_at.Given.{Over}
 use Rattle.tableau.proofs.controlled.multiply_at.Goals as goal
@@ -18,6 +19,18 @@ split_inside k n h = omega (arith, h)
 -- the first pair lies at 0, whatever a pair's size is
 fits_none : (size : ℕ) → Fits w64 (0 * size)
 fits_none size = search rules
+
+fits_place : (place count size : ℕ) → place < count → count * size < 2 ^ 63 → Fits w64 (place * size)
+fits_place place count size below small =
+    record { fits = omega (arith, mul-le place size count size (omega arith) (omega arith)) }
+
+pub offset_bounds-front-a : goal.offset_bounds-front-a
+offset_bounds-front-a g c =
+    fits_place c.args.a (length c.split_at_mut-front.result.0.now) _ (front_inside _ _ _ _ c.split_at_mut-front.ensures.front c.if-a-b.true c.requires.second_inside) (search rules)
+
+pub offset_bounds-front-b : goal.offset_bounds-front-b
+offset_bounds-front-b g c =
+    fits_place c.args.b (length c.split_at_mut-front-else-a-b.result.0.now) _ (front_inside _ _ _ _ c.split_at_mut-front-else-a-b.ensures.front (comes_after c.args.a c.args.b c.if-a-b.false c.requires.differ) c.requires.first_inside) (search rules)
 
 pub offset_bounds-0 : goal.offset_bounds-0
 offset_bounds-0 g c = fits_none _

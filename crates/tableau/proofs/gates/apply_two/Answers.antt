@@ -1,7 +1,7 @@
-use Rattle.std.proofs.Common.{◌<◌, List, length, drop, set, ap, ap₂, sym, subst, ◌∙◌, get_or-set_other}
+use Rattle.std.proofs.Common.{◌<◌, length, drop, set, ap, ap₂, sym, subst, ◌∙◌, get_or-set_other}
 use Rattle.pauli_word.specs.declared.letter.Letter.TheVariants.{I, X, Z}
 use Rattle.tableau.specs.private.ControlledSteps.{CanControl, after_controlled}
-use Rattle.tableau.specs.private.Encoding.{HasLength, IsTableau, Pair}
+use Rattle.tableau.specs.private.Encoding.{HasLength}
 use Rattle.tableau.proofs.ControlledRows.{controlled_rows, written_back}
 use Rattle.tableau.proofs.NewSizes.{two_size}
 use Rattle.tableau.proofs.PairWords.{pair_size, first_made, second_made, two_commute}

@@ -1,4 +1,4 @@
-use Rattle.std.proofs.Common.{◌≡◌, ◌+◌, ◌-◌, ◌<◌, ◌≤◌, ◌^◌, ◌++◌, ◌∙◌, Fits, w32, length, map, ap, arith, rules}
+use Rattle.std.proofs.Common.{◌+◌, ◌-◌, ◌++◌, ◌∙◌, Fits, w32, length, map, ap, arith, rules}
 use Rattle.std.specs.Prelude.{slice_range}
 use Rattle.flat_lists.proofs.CutLemmas.{length-cut}
 use Rattle.flat_lists.proofs.MovedLemmas.{IsRead, Moved, is_read, moved, small-ends, small-items}
