@@ -1,3 +1,0 @@
-pub mod LaneLines
-pub mod ShownRuns
-pub mod WritesShots
