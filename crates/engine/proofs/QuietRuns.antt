@@ -9,7 +9,7 @@ use Rattle.step_model.specs.Frames.{zero_coins}
 use Rattle.step_model.specs.Listing.{Listing, ListedStep, One, Two, Collapse, Fault, Feedback, measured_word, fault_word}
 use Rattle.step_model.specs.Runs.{RunState, after_collapse, correction, flip_happens, happens, next, records_of, run_from, start}
 use Rattle.step_model.specs.Targets.{difference, differences, parities, parity, targets_of}
-use Rattle.sampling.specs.Lines.{line_of}
+use Rattle.frames.specs.Lines.{line_of}
 use Rattle.engine.specs.Output.{run_lines}
 
 -- no value is true

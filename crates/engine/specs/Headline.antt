@@ -14,7 +14,7 @@ use Rattle.step_model.specs.Targets.{targets_of, noiseless_parity, AreCoins, IsR
 use Rattle.error_models.specs.ModelText.{model_text, target_text}
 use Rattle.dem_text.specs.Models.{model_in}
 use Rattle.unroll.specs.Programs.{program_in}
-use Rattle.sampling.specs.Lines.{line_of}
+use Rattle.frames.specs.Lines.{line_of}
 use Rattle.engine.specs.declared.order.Status.{Status}
 use Rattle.engine.specs.declared.order.Status.TheVariants.{Random}
 

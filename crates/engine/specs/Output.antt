@@ -25,8 +25,8 @@ use Rattle.error_models.specs.ModelText.{model_text, target_text}
 use Rattle.dem_text.specs.Models.{model_in}
 use Rattle.dem_text.specs.Sums.{symptom_of}
 use Rattle.fault_list.specs.FaultLines.{list_text}
-use Rattle.sampling.specs.Lines.{line_of}
-use Rattle.sampling.specs.Sampled.{detection_line, record_line, shots_text}
+use Rattle.frames.specs.Lines.{line_of}
+use Rattle.frames.specs.Sampled.{detection_line, record_line, shots_text}
 use Rattle.unroll.specs.Programs.{program_in}
 use Rattle.forward_sim.specs.Lists.{coins_of, numbers_of}
 use Rattle.engine.specs.Findings.{lowest_placed}

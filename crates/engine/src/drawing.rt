@@ -1,12 +1,12 @@
 //! Shots of a circuit.
 ghost use Rattle.engine.specs.Output.{program_shots, refused_or, shots_output};
 ghost use Rattle.engine.specs.private.Answered.{Answers};
-ghost use Rattle.sampling.specs.Shown.{shown_line};
+ghost use Rattle.frames.specs.Shown.{shown_line};
 
 use crate::order::Status;
 use crate::refusing::refuse;
+use frames::Shown;
 use programs::Program;
-use sampling::Shown;
 use std::alloc::Allocator;
 use step_model::{Cause, Fault, Sink};
 use unroll::read_program;
@@ -52,6 +52,6 @@ fn write_shots<W: Sink, A: Allocator + Copy>(
     if shots > MOST_SHOTS {
         return refuse(alloc, TOO_MANY, sink);
     }
-    sampling::write_shots(alloc, program, shown, shots, seed, sink)?;
+    frames::write_shots(alloc, program, shown, shots, seed, sink)?;
     Ok(Status::Done)
 }

@@ -2,7 +2,7 @@
 ghost use Rattle.std.specs.Prelude.{◌≡◌, ◌⊎◌, ◌++◌, [], false, length, replicate, None, Some, Ok, Err, IfOk, IfErr};
 ghost use Rattle.std.specs.List.{list_any};
 ghost use Rattle.std.specs.Option.{option_copied};
-ghost use Rattle.sampling.specs.Lines.{line_of};
+ghost use Rattle.frames.specs.Lines.{line_of};
 ghost use Rattle.step_model.specs.declared.fault.Cause.TheVariants.{CoinCount};
 ghost use Rattle.step_model.specs.Faults.{memory_fault, without_line};
 ghost use Rattle.step_model.specs.Frames.{zero_coins};

@@ -14,7 +14,7 @@ use crate::listing::answer_faults;
 use crate::order::{Order, Status};
 use crate::predicting::answer_prediction;
 use crate::running::answer_run;
-use sampling::Shown;
+use frames::Shown;
 use std::alloc::Allocator;
 use step_model::{Fault, Sink, Source, read_all};
 

@@ -8,3 +8,8 @@ pub mod FollowLaw
 pub mod LaneFrameLaws
 pub mod LaneLaws
 pub mod DecidedCoins
+pub mod Beginnings
+pub mod LineLemmas
+pub mod PushLemmas
+pub mod ShownLemmas
+pub mod TextLemmas

@@ -1,3 +1,7 @@
 pub mod Flips
 pub mod Passes
 pub mod Followed
+pub mod LaneLines
+pub mod Octets
+pub mod ShownRuns
+pub mod WritesShots

@@ -1,8 +1,8 @@
 //! Runs as the table has them, by the tableau and straight from the definitions.
 use crate::tests::differences::differences;
 use forward_sim::{Records, read_coins, read_numbers, run};
+use frames::digit;
 use programs::Program;
-use sampling::digit;
 use std::alloc::Global;
 use step_model::Fault;
 use test_support::are_digits;

@@ -4,12 +4,11 @@ ghost use Rattle.std.specs.Prelude.{◌≡◌, length};
 use super::growths::{Call, Memory, Ration, sweep};
 use super::lent::{Lent, are_false};
 use forward_sim::{Records, Reference, Shots, Span, detections, draw, run};
-use frames::Batch;
+use frames::{Batch, Shown, write_shots};
 use programs::Program;
 use rand_core::SeedableRng;
 use rand_core::utils::NextWord;
 use rand_pcg::Pcg64;
-use sampling::{Shown, write_shots};
 use std::test::Fail;
 use step_model::{Fault, MemorySink};
 

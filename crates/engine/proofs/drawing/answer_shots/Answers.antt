@@ -1,5 +1,5 @@
 use Rattle.std.proofs.Common.{sym, subst}
-use Rattle.sampling.specs.Shown.{shown_line}
+use Rattle.frames.specs.Shown.{shown_line}
 use Rattle.engine.specs.Output.{program_shots, refused_or}
 use Rattle.engine.specs.private.Answered.{Answers}
 use Rattle.engine.proofs.DrawingLemmas.{shots_of_text}

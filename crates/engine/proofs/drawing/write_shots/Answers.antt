@@ -1,5 +1,5 @@
 use Rattle.std.proofs.Common.{inr}
-use Rattle.sampling.specs.Shown.{shown_line}
+use Rattle.frames.specs.Shown.{shown_line}
 use Rattle.engine.proofs.DrawingLemmas.{too_many}
 use Rattle.engine.proofs.drawing.write_shots.Goals as goal
 

@@ -1,6 +1,6 @@
 use Rattle.std.proofs.Common.{◌++◌, ◌∷◌, [], ℕ, false, List, get_or, map, take, ap, ap₂, sym, ◌∙◌, append_assoc}
 use Rattle.std.proofs.lemmas.List.{map_more}
-use Rattle.sampling.specs.Lines.{digit_of}
+use Rattle.frames.specs.Lines.{digit_of}
 use Rattle.engine.proofs.lines.push_line.Goals as goal
 
 pub loop-value-preserved : goal.loop-value-preserved

@@ -1,5 +1,5 @@
 use Rattle.std.proofs.Common.{◌≡◌, ◌++◌, map, take}
-use Rattle.sampling.specs.Lines.{digit_of}
+use Rattle.frames.specs.Lines.{digit_of}
 use Rattle.engine.proofs.lines.push_line.Given as goal
 
 -- a character for each value so far

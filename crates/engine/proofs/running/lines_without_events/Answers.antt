@@ -1,5 +1,5 @@
 use Rattle.std.proofs.Common.{◌≡◌, ◌++◌, ◌∙◌, Bool, List, ap, ap₂, replicate, false, sym}
-use Rattle.sampling.specs.Lines.{line_of}
+use Rattle.frames.specs.Lines.{line_of}
 use Rattle.engine.proofs.QuietRuns.{no_events}
 use Rattle.engine.proofs.running.lines_without_events.Goals as goal
 

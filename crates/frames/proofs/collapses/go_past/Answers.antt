@@ -1,7 +1,7 @@
 -- Each step of the walk is the next of those that are left before it, and its records are counted.
 use Rattle.std.proofs.Common.{◌≡◌, ◌+◌, ◌<◌, true, false, length, take, sym, ap, ◌∙◌, arith}
 use Rattle.step_model.specs.WellFormed.{records_made}
-use Rattle.step_model.specs.Listing.{ListedStep, step_records, is_collapse}
+use Rattle.step_model.specs.Listing.{step_records, is_collapse}
 use Rattle.forward_sim.proofs.WalkedSteps.{GoesOver, goes_over, listed_of, rests}
 use Rattle.frames.proofs.Passing.{ahead-step, ahead-collapse, ahead-found, ahead-none, made_after-step, records_made-more}
 use Rattle.frames.proofs.collapses.go_past.Given.{Over}

@@ -1,0 +1,17 @@
+use Rattle.streams.proofs.Finishing.{all-finished, beginning-finished, count-finished}
+use Rattle.frames.proofs.batches.write_batches.Goals as goal
+
+pub returns-clause-all : goal.returns-clause-all
+returns-clause-all g c =
+    let pushed = rw (c.new-out.ensures, c.seed_from_u64-rng.ensures) at c.push_shots.ensures in
+    all-finished pushed c.finish.ensures.after_failure c.finish.ensures.all
+
+pub returns-clause-beginning : goal.returns-clause-beginning
+returns-clause-beginning g c =
+    let pushed = rw (c.new-out.ensures, c.seed_from_u64-rng.ensures) at c.push_shots.ensures in
+    beginning-finished pushed c.finish.ensures.after_failure c.finish.ensures.beginning
+
+pub returns-clause-count : goal.returns-clause-count
+returns-clause-count g c =
+    let pushed = rw (c.new-out.ensures, c.seed_from_u64-rng.ensures) at c.push_shots.ensures in
+    count-finished pushed c.finish.ensures.after_failure c.finish.ensures.count

@@ -1,0 +1,31 @@
+use Rattle.std.proofs.Common.{length, ap, sym, subst, ◌∙◌}
+use Rattle.std.proofs.lemmas.List.{length-replicate}
+use Rattle.frames.specs.Batches.{DontCount}
+use Rattle.frames.specs.Sampled.{shots_text}
+use Rattle.frames.specs.Shown.{shown_line}
+use Rattle.frames.proofs.Beginnings.{no_memory_there}
+use Rattle.frames.proofs.shots.write_beside.Goals as goal
+
+pub coins_that_dont_count-requires : goal.coins_that_dont_count-requires
+coins_that_dont_count-requires g c = c.requires
+
+pub write_drawn-requires-clause-batch : goal.write_drawn-requires-clause-batch
+write_drawn-requires-clause-batch g c = c.requires
+
+pub write_drawn-requires-clause-bounds : goal.write_drawn-requires-clause-bounds
+write_drawn-requires-clause-bounds g c = c.in_ok-drawn.ensures.bounds
+
+pub write_drawn-requires-clause-coins : goal.write_drawn-requires-clause-coins
+write_drawn-requires-clause-coins g c = ap length c.in_ok-drawn.ensures.coins ∙ length-replicate c.args.program.now.listing.collapses 0
+
+pub write_drawn-requires-clause-passed : goal.write_drawn-requires-clause-passed
+write_drawn-requires-clause-passed g c =
+    subst (DontCount c.args.program.now.listing) (sym c.in_ok-drawn.ensures.passed) c.coins_that_dont_count.ensures.coins
+
+pub returns-in_err-drawn : goal.returns-in_err-drawn
+returns-in_err-drawn g c =
+    no_memory_there g.W.Sink.taken g.W.Sink.failures (shots_text (shown_line c.args.shown) c.args.shots c.args.seed c.args.program.now.listing) c.args.sink.now
+    c.from_residual.result _ c.in_err-drawn.ensures.err c.from_residual.ensures.1
+
+pub returns : goal.returns
+returns g c = c.write_drawn.ensures

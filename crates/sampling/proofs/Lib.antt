@@ -1,5 +1,0 @@
-pub mod Beginnings
-pub mod LineLemmas
-pub mod PushLemmas
-pub mod ShownLemmas
-pub mod TextLemmas

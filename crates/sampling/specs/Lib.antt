@@ -1,4 +1,0 @@
-pub mod Lines
-pub mod Sampled
-pub mod Shown
-pub mod private

@@ -1,4 +1,0 @@
-pub mod LaneLines
-pub mod Octets
-pub mod ShownRuns
-pub mod WritesShots
