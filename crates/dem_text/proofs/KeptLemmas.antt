@@ -1,8 +1,8 @@
 -- Lines of an error model that are kept: one more of them, and what stands at a place.
-use Rattle.std.proofs.Common.{◌≡◌, ℕ, zero, suc, ◌+◌, ◌<◌, ◌≤◌, ℤ, List, [], ◌∷◌, ◌++◌, None, Some, length, get_or, map, refl, ap, ap₂, subst, sym, ◌∙◌, inl, inr, arith}
+use Rattle.std.proofs.Common.{◌≡◌, ℕ, zero, suc, ◌+◌, ◌<◌, ◌≤◌, ℤ, List, [], ◌∷◌, ◌++◌, Some, length, get_or, map, refl, ap, ap₂, subst, sym, ◌∙◌, inl, inr, arith}
 use Rattle.std.specs.Prelude.{All, slice_get}
 use Rattle.std.proofs.lemmas.Bool.{cases_lt}
-use Rattle.std.proofs.lemmas.List.{get_or_append_left, get_or_push, length_push, map-append}
+use Rattle.std.proofs.lemmas.List.{get_or_append_left, get_or_push, get_or_read, length_push, map-append}
 use Rattle.std.proofs.lemmas.List.Elements.{All-append, All-cons, All-nil}
 use Rattle.dem_text.specs.declared.operation.Operation.{Operation}
 use Rattle.dem_text.specs.declared.operation.Operation.TheVariants.{PauliError, DetectorDeclaration, ObservableInclude, Shifts}
@@ -40,11 +40,6 @@ items-same text rares r (e ∷ entries) h =
 still-kept : (text : List ℕ) (n m : ℕ) (e : Entry) → n ≤ m → IsEntryKept text n e → IsEntryKept text m e
 still-kept text n m (entry.Error observables detectors at) more h = h
 still-kept text n m (entry.Rare number) more h = omega (arith, more, h)
-
-pub error-items : (text : List ℕ) (entries entries' : List Entry) (rares : List Rare) (observables detectors at : ℕ) → entries' ≡ entries ++ entry.Error observables detectors at ∷ []
-    → map (item_of text rares) entries' ≡ map (item_of text rares) entries ++ item_of text rares (entry.Error observables detectors at) ∷ []
-error-items text entries entries' rares observables detectors at e =
-    ap (map (item_of text rares)) e ∙ map-append (item_of text rares) entries (entry.Error observables detectors at ∷ [])
 
 pub error-kept : (text : List ℕ) (entries entries' : List Entry) (rares : List Rare) (numbers : List (List ℤ)) (observables detectors at : ℕ) → entries' ≡ entries ++ entry.Error observables detectors at ∷ []
     → AreKept text entries rares numbers → IsKept text at PauliError (record { detectors = detectors; observables = observables }) 0 [] → AreKept text entries' rares numbers
@@ -119,15 +114,10 @@ error-read line text at extent e h =
 
 -- ---- what stands at a place
 
-pub got-mapped : {X Y : Type 0} (f : X → Y) (xs : List X) (k : ℕ) (d : X) → k < length xs → slice_get (map f xs) k ≡ Some (f (get_or xs k d))
+got-mapped : {X Y : Type 0} (f : X → Y) (xs : List X) (k : ℕ) (d : X) → k < length xs → slice_get (map f xs) k ≡ Some (f (get_or xs k d))
 got-mapped f [] k d h = absurd (omega (arith, h))
 got-mapped f (x ∷ xs) zero d h = refl
 got-mapped f (x ∷ xs) (suc k) d h = got-mapped f xs k d (omega (arith, h))
-
-pub got-past : {X Y : Type 0} (f : X → Y) (xs : List X) (k : ℕ) → length xs ≤ k → slice_get (map f xs) k ≡ None
-got-past f [] k h = refl
-got-past f (x ∷ xs) zero h = absurd (omega (arith, h))
-got-past f (x ∷ xs) (suc k) h = got-past f xs k (omega (arith, h))
 
 -- the item of the entry that was found at a place
 pub item-got : (text : List ℕ) (rares : List Rare) (entries : List Entry) (k : ℕ) (e d : Entry) → k < length entries → e ≡ get_or entries k d
@@ -135,6 +125,17 @@ pub item-got : (text : List ℕ) (rares : List Rare) (entries : List Entry) (k :
 item-got text rares entries k e d below is =
     got-mapped (item_of text rares) entries k d below ∙ ap (λ (x : Entry). Some (item_of text rares x)) (sym is)
 
-pub entry-got : (text : List ℕ) (rares : List Rare) (numbers : List (List ℤ)) (entries : List Entry) (k : ℕ) (e d : Entry) → AreKept text entries rares numbers → k < length entries → e ≡ get_or entries k d
-    → IsEntryKept text (length rares) e
-entry-got text rares numbers entries k e d h below is = subst (IsEntryKept text (length rares)) (sym is) (h.entries_are k d below)
+-- the number of a rare line is one of theirs
+pub number-within : (text : List ℕ) (rares : List Rare) (numbers : List (List ℤ)) (entries : List Entry) (k number : ℕ) (e : Entry) → AreKept text entries rares numbers → k < length entries → e ≡ get_or entries k e
+    → e ≡ entry.Rare number → number < length rares
+number-within text rares numbers entries k number e h below is names =
+    subst (IsEntryKept text (length rares)) (sym is ∙ names) (h.entries_are k e below)
+
+-- the item of the rare line that was found there
+pub rare-got : (text : List ℕ) (rares : List Rare) (entries : List Entry) {items : List Item} (k number : ℕ) (e : Entry) (r : Rare) → map (item_of text rares) entries ≡ items → k < length entries → e ≡ get_or entries k e
+    → e ≡ entry.Rare number → number < length rares → r ≡ get_or rares number r → slice_get items k ≡ Some (item_of_rare text r)
+rare-got text rares entries {items} k number e r view below is names within found =
+    ap (λ (all : List Item). slice_get all k) (sym view)
+    ∙ item-got text rares entries k e e below is
+    ∙ ap (λ (x : Entry). Some (item_of text rares x)) names
+    ∙ ap (λ (x : Rare). Some (item_of_rare text x)) (sym (get_or_read rares number r within found rare.BlockEnd))
