@@ -1,13 +1,12 @@
 -- The lines that a text begins with, one after another: what each of them is, and what they count together.
-use Rattle.std.proofs.Common.{◌≡◌, Bor, ℕ, zero, suc, ◌+◌, true, false, max, List, [], ◌∷◌, ◌++◌, length, map, take, inl, inr, refl, ap, ap₂, subst, sym, ◌∙◌, append_assoc, append-nil, length-append, arith}
+use Rattle.std.proofs.Common.{◌≡◌, Bor, ℕ, zero, suc, ◌+◌, false, max, List, [], ◌∷◌, ◌++◌, length, map, take, refl, ap, ap₂, subst, sym, ◌∙◌, append_assoc, append-nil, length-append, arith}
 use Rattle.std.specs.Prelude.{filter}
 use Rattle.std.proofs.lemmas.List.{map-append}
 use Rattle.std.proofs.lemmas.List.Elements.{filter-append}
-use Rattle.stim_lexer.specs.Cut.{Cut, cut_of, has_bad_byte}
+use Rattle.stim_lexer.specs.Cut.{Cut, cut_of}
 use Rattle.stim_lexer.specs.FirstLines.{IsFirstLine}
-use Rattle.stim_lexer.specs.Lines.{lines_of, says_nothing}
+use Rattle.stim_lexer.specs.Lines.{lines_of}
 use Rattle.stim_lexer.specs.Reached.{greatest_by}
-use Rattle.stim_lexer.specs.Texts.{Accepts, line_reading}
 use Rattle.stim_lexer.proofs.TextLemmas.{after}
 use Rattle.dem_text.specs.declared.counts.Extent.{Extent}
 use Rattle.dem_text.specs.declared.counts.LineCounts.{LineCounts}
@@ -15,14 +14,12 @@ use Rattle.dem_text.specs.declared.operation.Operation.TheVariants.{PauliError}
 use Rattle.dem_text.specs.declared.target.Target.{Target}
 use Rattle.dem_text.specs.Meanings.{detectors_to, is_error, observables_to}
 use Rattle.dem_text.specs.Shifts.{Placed}
-use Rattle.dem_text.specs.Texts.{models}
-use Rattle.dem_text.specs.Verdicts.{Instruction, model_table}
+use Rattle.dem_text.specs.Verdicts.{Instruction}
 use Rattle.dem_text.specs.private.Chains.{counted_with, is_shift, placed}
 use Rattle.dem_text.specs.private.Leading.{AreErrorLines, AreQuiet, BeginsWithErrors, HasDeclared, HasPassedQuiet, IsLeading, IsQuiet, IsSomeError, counted_both, errors_from, said_from, said_in}
 use Rattle.dem_text.specs.private.LinesRead.{BeginsWithError}
 use Rattle.dem_text.specs.private.Standing.{instruction_cut}
 use Rattle.dem_text.specs.private.Summed.{AreCounts}
-use Rattle.stim_parser.specs.Judging.{reading_of}
 use Rattle.dem_text.specs.declared.operation.Operation.{Operation}
 use Rattle.dem_text.proofs.LineLemmas.{IsTaken}
 use Rattle.dem_text.proofs.ReadingLemmas.{before-first, before-next, passed}
@@ -130,25 +127,6 @@ declared-taken operation arguments number cut targets counts h still quiet detec
       reading = h.reading;
       declares = record { still = still; quiet = quiet; fits = h.fits };
       counts_are = record { detectors_are = omega (arith, detectors, d); observables_are = omega (arith, observables, o); errors_are = rw quiet none };
-    }
-
-pub passed-silent : (number : ℕ) (line : List ℕ) → says_nothing line ≡ true → HasPassedQuiet number line (record { detectors = 0; observables = 0; errors = 0 })
-passed-silent number line silent =
-    record {
-      quiet = inl silent;
-      counts_are = rw silent (record { detectors_are = refl; observables_are = refl; errors_are = refl });
-      no_errors = refl;
-    }
-
-pub passed-declared : (number : ℕ) (line : List ℕ) (cut : Cut) (counts : LineCounts) → says_nothing line ≡ false → has_bad_byte line ≡ false → cut ≡ cut_of line → HasDeclared number cut counts
-    → HasPassedQuiet number line counts
-passed-declared number line cut counts speaks good is h =
-    let reading : line_reading models [] number line ≡ Accepts h.instruction = rw good (ap (λ (c : Cut). reading_of model_table 0 number c) (sym is) ∙ h.reading) in
-    let quiet = h.declares.quiet in
-    record {
-      quiet = inr (record { speaks = speaks; instruction = h.instruction; reading = reading; declares = h.declares });
-      counts_are = rw (speaks, reading) h.counts_are;
-      no_errors = h.counts_are.errors_are ∙ rw quiet refl;
     }
 
 said-both : (read : ℕ) (xs ys : List (List ℕ)) → said_from read (xs ++ ys) ≡ said_from read xs ++ said_from (read + length xs) ys

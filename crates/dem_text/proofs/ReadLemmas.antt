@@ -1,5 +1,5 @@
 -- The model of a text, put together from what was read of it.
-use Rattle.std.proofs.Common.{◌≡◌, ℕ, true, false, List, None, Some, Result, Ok, Err, ◌⊎◌, inl, inr, ap, sym, ◌∙◌}
+use Rattle.std.proofs.Common.{◌≡◌, ℕ, false, List, None, Some, Result, Ok, Err, ◌⊎◌, inl, inr, ap, sym, ◌∙◌}
 use Rattle.std.specs.Prelude.{if◌then◌else◌, option_map, IfOk}
 use Rattle.std.specs.Option.{option_or}
 use Rattle.step_model.specs.declared.fault.Cause.TheVariants as cause
@@ -17,14 +17,6 @@ use Rattle.dem_text.specs.Judged.{IsRefusedBy, Writes}
 
 -- ---- the model of a tree
 
-pub many-lines : (t : Tree) → has_many_lines t ≡ true → model_of_tree t ≡ Err (without_line cause.DemSteps)
-many-lines t e =
-    ap
-    (λ b. unless
-    (option_or (if b then Some (without_line cause.DemSteps) else None) (option_map (refused cause.DemNumber) (first_beyond (placed_lines t))))
-    (meaning_of (placed_lines t)))
-    e
-
 few-lines : (t : Tree) → has_many_lines t ≡ false → model_of_tree t ≡ unless (option_map (refused cause.DemNumber) (first_beyond (placed_lines t))) (meaning_of (placed_lines t))
 few-lines t e =
     ap
@@ -32,11 +24,6 @@ few-lines t e =
     (option_or (if b then Some (without_line cause.DemSteps) else None) (option_map (refused cause.DemNumber) (first_beyond (placed_lines t))))
     (meaning_of (placed_lines t)))
     e
-
-pub number-beyond : (t : Tree) (f : Fault) → has_many_lines t ≡ false
-    → (f ≡ memory_fault) ⊎ (option_map (refused cause.DemNumber) (first_beyond (placed_lines t)) ≡ Some f) → (f ≡ memory_fault) ⊎ (model_of_tree t ≡ Err f)
-number-beyond t f e (inl m) = inl m
-number-beyond t f e (inr r) = inr (few-lines t e ∙ ap (λ o. unless o (meaning_of (placed_lines t))) r)
 
 pub whole-model : (t : Tree) (m : ErrorModel) → has_many_lines t ≡ false → first_beyond (placed_lines t) ≡ None → m ≡ meaning_of (placed_lines t) → model_of_tree t ≡ Ok m
 whole-model t m e near is =
@@ -61,10 +48,6 @@ read-model text t m w e = written-model text t w ∙ e
 pub refused-model : (text : List ℕ) (t : Tree) (f : Fault) → Writes text t → (f ≡ memory_fault) ⊎ (model_of_tree t ≡ Err f) → (f ≡ memory_fault) ⊎ (model_in text ≡ Err f)
 refused-model text t f w (inl m) = inl m
 refused-model text t f w (inr r) = inr (written-model text t w ∙ r)
-
-pub refused-lines : (text : List ℕ) (f : Fault) → (f ≡ memory_fault) ⊎ IsRefusedBy text f → (f ≡ memory_fault) ⊎ (model_in text ≡ Err f)
-refused-lines text f (inl m) = inl m
-refused-lines text f (inr r) = inr (refused-text text f r)
 
 -- what two clauses say of an answer together
 pub both-ok : {X E : Type 0} (P Q R : X → Type 0) → ((x : X) → P x → Q x → R x) → (r : Result X E) → IfOk r P → IfOk r Q → IfOk r R

@@ -1,32 +1,28 @@
 -- The lines of an error model's text read one after another: where each stands, and what those that were read make of the text.
-use Rattle.std.proofs.Common.{◌<◌, ◌≡◌, ℕ, ◌+◌, ◌-◌, true, false, List, [], ◌∷◌, ◌++◌, length, drop, take, reverse, Option, None, Some, option_to_list, Result, Ok, Err, refl, ap, ap₂, sym, subst, ◌∙◌, append_assoc, append-nil, length-append, inl, inr, arith}
+use Rattle.std.proofs.Common.{◌<◌, ◌≡◌, ℕ, ◌+◌, ◌-◌, true, false, List, [], ◌∷◌, ◌++◌, length, drop, take, reverse, Option, None, Some, option_to_list, Result, Ok, Err, refl, ap, ap₂, sym, ◌∙◌, append_assoc, append-nil, length-append, inl, inr, arith}
 use Rattle.std.specs.Prelude.{filter}
 use Rattle.std.specs.List.{before_first, list_any}
 use Rattle.std.proofs.lemmas.Bool.{or_parts}
-use Rattle.std.proofs.lemmas.List.{length-reverse, length-take, nil_from_length, reverse-append}
+use Rattle.std.proofs.lemmas.List.{length-take, nil_from_length, reverse-append}
 use Rattle.std.proofs.lemmas.List.Elements.{filter-append}
 use Rattle.step_model.specs.declared.fault.Cause.{Cause}
-use Rattle.step_model.specs.declared.fault.Cause.TheVariants as cause
 use Rattle.stim_lexer.specs.Bytes.{is_line_feed}
-use Rattle.stim_lexer.specs.Cut.{cut_of, has_bad_byte}
 use Rattle.stim_lexer.specs.Lexing.{Unread}
-use Rattle.stim_lexer.specs.FirstLines.{IsFirstLine}
 use Rattle.stim_lexer.specs.Lines.{lines_of, says_nothing}
 use Rattle.stim_lexer.specs.Texts.{Reading, Accepts, Opens, Closes, Refuses, at_end, followed, items_from, line_reading, open_after, refused}
 use Rattle.stim_lexer.specs.Judged.{IsRefusedBy}
 use Rattle.stim_lexer.specs.Unfinished.{Unfinished, cause_in, line_items}
 use Rattle.stim_lexer.proofs.TextLemmas.{IsReading, after, after-append, after-err, after-ok}
-use Rattle.stim_parser.specs.Judging.{reading_of}
 use Rattle.dem_text.specs.Texts.{Item, items_in, models}
-use Rattle.stim_lexer.specs.Trees.{InstructionLine, BlockStart, BlockEnd}
-use Rattle.dem_text.specs.Verdicts.{Instruction, model_table}
+use Rattle.stim_lexer.specs.Trees.{InstructionLine}
+use Rattle.dem_text.specs.Verdicts.{Instruction}
 use Rattle.dem_text.specs.declared.operation.Operation.TheVariants.{PauliError}
 use Rattle.dem_text.specs.declared.counts.Extent.{Extent}
 use Rattle.dem_text.specs.private.Kept.{IsKept, Kept, with_item}
-use Rattle.dem_text.specs.private.LinesRead.{BeginsWithError, HasRead, HasSpoken, IsErrorLine, PassesFirst, PassesLine, unfinished}
+use Rattle.dem_text.specs.private.LinesRead.{BeginsWithError, HasRead, PassesFirst, PassesLine, unfinished}
 use Rattle.dem_text.proofs.KeptLemmas.{error-read}
 pub use Rattle.dem_text.specs.private.Standing.{IsBefore}
-use Rattle.dem_text.specs.private.Standing.{instruction_at, instruction_cut, line_at, line_number}
+use Rattle.dem_text.specs.private.Standing.{line_at, line_number}
 
 -- ---- where a line stands
 
@@ -81,63 +77,6 @@ pub read-takes : (reading : Reading Instruction) (i : Instruction) (number : ℕ
     → HasRead reading number None kept opened kept' opened'
 read-takes reading i number kept kept' opened opened' e more same =
     rw (e, more, same) (record { cause_is = refl; text_is = refl; after_is = refl })
-
-pub read-opens : (reading : Reading Instruction) (turns number : ℕ) (kept kept' : Kept) (opened opened' : List ℕ) → reading ≡ Opens turns → kept' ≡ with_item kept (BlockStart number turns) → opened' ≡ opened ++ number ∷ []
-    → HasRead reading number None kept opened kept' opened'
-read-opens reading turns number kept kept' opened opened' e more next =
-    rw (e, more, next)
-    (record {
-      cause_is = refl;
-      text_is = refl;
-      after_is = ap (λ (os : List ℕ). record { items = kept.items ++ BlockStart number turns ∷ []; opened = os }) (reverse-append opened (number ∷ []));
-    })
-
-last-closed : (opened opened' : List ℕ) (popped : Option ℕ) → opened ≡ opened' ++ option_to_list popped → opened' ≡ take (length opened - 1) opened → reverse opened' ≡ drop 1 (reverse opened)
-last-closed opened opened' None e rest =
-    let same : opened ≡ opened' = e ∙ append-nil opened' in
-    let long = ap length rest ∙ length-take (length opened - 1) opened in
-    let none : length opened' ≡ 0 = omega (arith, long, ap length same) in
-    let nothing : opened' ≡ [] = nil_from_length opened' none in
-    rw (same, nothing) refl
-last-closed opened opened' (Some b) e rest = sym (ap (λ os. drop 1 (reverse os)) e ∙ ap (drop 1) (reverse-append opened' (b ∷ [])))
-
-pub read-closes : (reading : Reading Instruction) (number : ℕ) (kept kept' : Kept) (opened opened' : List ℕ) (popped : Option ℕ) → reading ≡ Closes → kept' ≡ with_item kept BlockEnd → opened ≡ opened' ++ option_to_list popped → opened' ≡ take (length opened - 1) opened
-    → HasRead reading number None kept opened kept' opened'
-read-closes reading number kept kept' opened opened' popped e more last rest =
-    rw (e, more)
-    (record {
-      cause_is = refl;
-      text_is = refl;
-      after_is = ap (λ (os : List ℕ). record { items = kept.items ++ BlockEnd ∷ []; opened = os }) (last-closed opened opened' popped last rest);
-    })
-
-pub read-refuses : (reading : Reading Instruction) (c : Cause) (number : ℕ) (kept kept' : Kept) (opened opened' : List ℕ) → reading ≡ Refuses c → kept' ≡ kept → opened' ≡ opened
-    → HasRead reading number (Some c) kept opened kept' opened'
-read-refuses reading c number kept kept' opened opened' e same none =
-    rw (e, same, none)
-    (record {
-      cause_is = refl;
-      text_is = refl;
-      after_is = ap (λ (is : List Item). record { items = is; opened = reverse opened }) (sym (append-nil kept.items));
-    })
-
--- the same of a line as it stands
-pub spoken-cut : (line : List ℕ) (number : ℕ) (refused : Option Cause) (kept kept' : Kept) (opened opened' : List ℕ) → says_nothing line ≡ false → has_bad_byte line ≡ false
-    → HasRead (reading_of model_table (length opened) number (cut_of line)) number refused kept opened kept' opened' → HasSpoken line number refused kept opened kept' opened'
-spoken-cut line number refused kept kept' opened opened' speaks good h =
-    let same : line_reading models (reverse opened) number line ≡ reading_of model_table (length opened) number (cut_of line) =
-    rw good (ap (λ n. reading_of model_table n number (cut_of line)) (length-reverse opened)) in
-    record { speaks = speaks; read = subst (λ (r : Reading Instruction). HasRead r number refused kept opened kept' opened') (sym same) h }
-
-pub spoken-error : (line : List ℕ) (extent : Extent) (text : List ℕ) (at number : ℕ) (kept kept' : Kept) (opened opened' : List ℕ) → IsErrorLine line extent → line ≡ line_at text at → number ≡ line_number text at
-    → kept' ≡ with_item kept (InstructionLine (instruction_at text at PauliError)) → opened' ≡ opened → HasSpoken line number None kept opened kept' opened'
-spoken-error line extent text at number kept kept' opened opened' h e n more same =
-    let i = instruction_cut number PauliError (cut_of line) in
-    let is : instruction_at text at PauliError ≡ i = ap₂ (λ (m : ℕ) (l : List ℕ). instruction_cut m PauliError (cut_of l)) (sym n) (sym e) in
-    record {
-      speaks = h.speaks.speaks;
-      read = read-takes (line_reading models (reverse opened) number line) i number kept kept' opened opened' (h.taken number (reverse opened)) (more ∙ ap (λ (j : Instruction). with_item kept (InstructionLine j)) is) same;
-    }
 
 -- ---- one line more
 
@@ -246,31 +185,5 @@ first-stands text rest read h = stands-at text rest (before_first is_line_feed r
 
 -- ---- a line that was read
 
-pub passes-error : (text after : List ℕ) (extent : Extent) (whole : List ℕ) (at number : ℕ) (kept kept' : Kept) (opened opened' : List ℕ) → BeginsWithError text extent after
-    → before_first is_line_feed text ≡ line_at whole at → number ≡ line_number whole at → kept' ≡ with_item kept (InstructionLine (instruction_at whole at PauliError)) → opened' ≡ opened → PassesFirst text after number None kept opened kept' opened'
-passes-error text after extent whole at number kept kept' opened opened' h e n more same =
-    record {
-      line = h.line;
-      first = h.first;
-      passes = inr (spoken-error h.line extent whole at number kept kept' opened opened' h.error (h.first.cut ∙ e) n more same);
-    }
-
 pub error-begun : (text after : List ℕ) (extent : Extent) (whole : List ℕ) (at : ℕ) → BeginsWithError text extent after → before_first is_line_feed text ≡ line_at whole at → IsKept whole at PauliError extent 0 []
 error-begun text after extent whole at h e = error-read h.line whole at extent (h.first.cut ∙ e) h.error
-
-pub passes-silent : (text line after : List ℕ) (number : ℕ) (kept : Kept) (opened : List ℕ) → IsFirstLine text line after → says_nothing line ≡ true → PassesFirst text after number None kept opened kept opened
-passes-silent text line after number kept opened first silent =
-    record { line = line; first = first; passes = inl (record { silent = silent; accepted = refl; kept_is = refl; opened_is = refl }) }
-
-pub passes-bad : (text line after : List ℕ) (number : ℕ) (kept : Kept) (opened : List ℕ) → IsFirstLine text line after → says_nothing line ≡ false → has_bad_byte line ≡ true → PassesFirst text after number (Some cause.Byte) kept opened kept opened
-passes-bad text line after number kept opened first speaks bad =
-    record {
-      line = line;
-      first = first;
-      passes = inr (record { speaks = speaks; read = read-refuses (line_reading models (reverse opened) number line) cause.Byte number kept kept opened opened (rw bad refl) refl refl });
-    }
-
-pub passes-cut : (text line after : List ℕ) (number : ℕ) (refused : Option Cause) (kept kept' : Kept) (opened opened' : List ℕ) → IsFirstLine text line after → says_nothing line ≡ false → has_bad_byte line ≡ false
-    → HasRead (reading_of model_table (length opened) number (cut_of line)) number refused kept opened kept' opened' → PassesFirst text after number refused kept opened kept' opened'
-passes-cut text line after number refused kept kept' opened opened' first speaks good h =
-    record { line = line; first = first; passes = inr (spoken-cut line number refused kept kept' opened opened' speaks good h) }

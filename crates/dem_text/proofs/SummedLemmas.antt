@@ -1,5 +1,5 @@
 -- Lines that are summed as they were read: their targets turn round what those of their error lines turn round.
-use Rattle.std.proofs.Common.{◌≡◌, ℕ, zero, suc, ◌+◌, ◌&&◌, ◌<◌, ◌≤◌, Bool, true, false, if◌then◌else◌, List, [], ◌∷◌, ◌++◌, length, drop, get_or, map, replicate, refl, ap, ap₂, subst, sym, ◌∙◌, inl, inr, arith}
+use Rattle.std.proofs.Common.{◌≡◌, ℕ, zero, suc, ◌+◌, ◌&&◌, ◌<◌, ◌≤◌, Bool, true, false, if◌then◌else◌, List, [], ◌∷◌, length, drop, get_or, map, replicate, refl, ap, ap₂, subst, sym, ◌∙◌, inl, inr, arith}
 use Rattle.std.specs.Prelude.{cond, filter}
 use Rattle.std.specs.List.{range_with_len}
 use Rattle.std.proofs.lemmas.Bool.{cases_lt, eq-eqb, ne_eqb}
@@ -8,30 +8,14 @@ use Rattle.std.proofs.lemmas.List.FromFn.{get_or-map-range_with_len, length-map-
 use Rattle.pauli_word.specs.Parity.{exclusive_or}
 use Rattle.step_model.specs.ErrorModels.{ErrorLine, ErrorModel}
 use Rattle.dem_text.specs.declared.target.Target.{Target}
-use Rattle.dem_text.specs.Meanings.{detector_count, error_line, error_lines, flipped, is_error, meaning_of, observable_count, numbered}
+use Rattle.dem_text.specs.Meanings.{detector_count, error_line, error_lines, flipped, is_error, meaning_of, observable_count}
 use Rattle.dem_text.specs.private.Numbered.{odd_below, numbers_of}
 use Rattle.dem_text.specs.Shifts.{Placed}
 use Rattle.dem_text.specs.private.Summed.{error_count, passed_after, turned_past}
 use Rattle.dem_text.specs.Sums.{symptom_of}
 use Rattle.step_model.specs.Targets.{is_listed}
-use Rattle.dem_text.specs.private.Turned.{turned, turned_at, turned_by}
+use Rattle.dem_text.specs.private.Turned.{turned, turned_by}
 use Rattle.dem_text.proofs.SumLemmas.{length-turned_if, symptom-turned, turned-map}
-
--- ---- targets one after another
-
-turned-append : (bits : List Bool) (xs ys : List ℕ) → turned bits (xs ++ ys) ≡ turned (turned bits xs) ys
-turned-append bits [] ys = refl
-turned-append bits (x ∷ xs) ys = turned-append (turned_at bits x) xs ys
-
-pub numbers-next : (d : ℕ) (bits bits' : List Bool) (t : Target) (rest rest' : List Target) → rest ≡ t ∷ rest' → bits' ≡ turned bits (numbered d t)
-    → turned bits' (numbers_of d rest') ≡ turned bits (numbers_of d rest)
-numbers-next d bits bits' t rest rest' e more =
-    ap (λ bs. turned bs (numbers_of d rest')) more
-    ∙ sym (turned-append bits (numbered d t) (numbers_of d rest'))
-    ∙ ap (λ ts. turned bits (numbers_of d ts)) (sym e)
-
-pub numbers-done : (d : ℕ) (bits : List Bool) (rest : List Target) → rest ≡ [] → bits ≡ turned bits (numbers_of d rest)
-numbers-done d bits rest e = sym (ap (λ ts. turned bits (numbers_of d ts)) e)
 
 -- ---- how many error lines
 

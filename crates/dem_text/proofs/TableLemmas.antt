@@ -19,8 +19,8 @@ use Rattle.dem_text.specs.Verdicts.{Instruction}
 use Rattle.dem_text.specs.declared.counts.Extent.{Extent}
 use Rattle.dem_text.specs.Meanings.{detectors_to, observables_to}
 use Rattle.stim_lexer.specs.Reached.{greatest_by}
-use Rattle.dem_text.specs.Shifts.{Shift, coordinates_given, placed_at, shifted_target}
-use Rattle.dem_text.specs.private.Tables.{IsKnown, coordinates_from, count_at, most_detectors, numbers_of_line, numbers_stated}
+use Rattle.dem_text.specs.Shifts.{Shift, placed_at, shifted_target}
+use Rattle.dem_text.specs.private.Tables.{IsKnown, count_at, most_detectors, numbers_of_line, numbers_stated}
 use Rattle.dem_text.specs.private.Offsets.{AreSmall}
 use Rattle.dem_text.proofs.ShiftLemmas.{few_arguments, left, right, small_values}
 
@@ -106,23 +106,12 @@ few-named (Separator ∷ ts) h = let rest = few-named ts h in (omega (arith, res
 
 -- ---- a line as it is reached
 
-coordinates-same : (operation : Operation) (arguments : List (List ℕ)) (offset : List ℤ) → coordinates_from operation (numbers_stated operation arguments) offset ≡ coordinates_given operation arguments offset
-coordinates-same PauliError arguments offset = refl
-coordinates-same DetectorDeclaration arguments offset = refl
-coordinates-same ObservableInclude arguments offset = refl
-coordinates-same Shifts arguments offset = refl
-
 targets-beyond : (s : Shift) (i : Instruction) (e : Extent) (ns : List ℤ) → IsKnown i e ns
     → has_target_beyond (placed_at s i).targets ≡ nat_lt most_detectors (count_at s.detectors e.detectors)
 unfolding has_target_beyond
 targets-beyond s i e ns known =
     far-targets s.detectors i.targets known.within
     ∙ ap (nat_lt most_detectors) (counted s.detectors i.targets ∙ ap (λ (x : Extent). count_at s.detectors x.detectors) (sym known.extent_is))
-
-pub coordinates-known : (s : Shift) (i : Instruction) (e : Extent) (ns : List ℤ) → IsKnown i e ns
-    → coordinates_from i.operation ns s.offset ≡ (placed_at s i).coordinates
-coordinates-known s i e ns known =
-    ap (λ stated. coordinates_from i.operation stated s.offset) known.numbers_are ∙ coordinates-same i.operation i.arguments s.offset
 
 detectors-known : (s : Shift) (i : Instruction) (e : Extent) (ns : List ℤ) → IsKnown i e ns
     → count_at s.detectors e.detectors ≡ greatest_by detectors_to (placed_at s i).targets

@@ -9,7 +9,7 @@ use Rattle.stim_lexer.specs.declared.line.Braces.TheVariants.{NoBrace, OpeningLa
 use Rattle.stim_lexer.specs.Bytes.{is_blank, is_brace, is_open_brace, is_open_parenthesis, is_close_parenthesis, is_empty, begins_with, from_first}
 use Rattle.stim_lexer.specs.Lines.{content_of, is_closing, says_nothing}
 use Rattle.stim_lexer.specs.Cut.{Cut, cut_of, name_of, body_of, leaves_tag_open, leaves_open, in_brackets, after_brackets, braces_in, has_bad_byte}
-use Rattle.stim_lexer.specs.Lexing.{Unread, after_silent, first_found, next_found, after_first_found}
+use Rattle.stim_lexer.specs.Lexing.{Unread, after_silent, first_found, next_found}
 use Rattle.stim_lexer.proofs.ScanLemmas.{list_any-from_first}
 
 -- ---- a line
@@ -79,8 +79,5 @@ next_found-first old new e =
 
 pub first_found-bad : (read : ℕ) (line : List ℕ) (lines all : List (List ℕ)) → all ≡ line ∷ lines → has_bad_byte line ≡ true → first_found read all ≡ Err (record { cause = cause.Byte; line = read + 1 })
 first_found-bad read line lines all at bad = rw (at, bad) refl
-
-stays_done : (read : ℕ) (lines : List (List ℕ)) → lines ≡ [] → (let u : Unread = record { read = read; lines = lines } in u ≡ after_first_found read lines)
-stays_done read lines none = rw none refl
 
 -- nothing is left where nothing was found

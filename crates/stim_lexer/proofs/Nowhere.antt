@@ -1,12 +1,11 @@
 -- A byte that stands nowhere in a text stands nowhere in what is cut from it.
-use Rattle.std.proofs.Common.{◌≡◌, ℕ, zero, suc, ◌+◌, ◌==◌, Bool, true, false, not, ◌||◌, List, [], ◌∷◌, length, drop, refl, ap, sym, ◌∙◌, inl, inr, arith}
+use Rattle.std.proofs.Common.{◌≡◌, ℕ, zero, suc, ◌+◌, Bool, true, false, not, ◌||◌, List, [], ◌∷◌, drop, refl, ap, sym, ◌∙◌, inl, inr, arith}
 use Rattle.std.specs.Prelude.{if◌then◌else◌}
 use Rattle.std.specs.List.{position_or_len, before_first, list_any}
 use Rattle.std.proofs.lemmas.Bool.{cases_Bool}
 use Rattle.stim_lexer.specs.declared.line.Braces.TheVariants.{NoBrace, OpeningLast, Misplaced}
 use Rattle.stim_lexer.specs.Bytes.{after_blanks, is_blank, is_brace, is_empty, is_hash, is_open_brace, from_first}
 use Rattle.stim_lexer.specs.Cut.{after_brackets, after_name, after_opening, braces_in, has_opening, has_opening_last}
-use Rattle.stim_lexer.proofs.LexingLemmas.{is_empty-is}
 use Rattle.stim_lexer.proofs.ScanLemmas.{list_any-from_first}
 
 pub or-left : (a b : Bool) → (a || b) ≡ false → a ≡ false
@@ -45,11 +44,6 @@ none_after_brackets p opening closing text h =
 
 pub none_after_name : (p : ℕ → Bool) (line : List ℕ) → list_any p line ≡ false → list_any p (after_name line) ≡ false
 none_after_name p line h = none_behind p _ (after_blanks line) (none_behind p _ line h)
-
--- whether a byte stands somewhere, told by what is left from its first place on
-pub stands_somewhere : (p : ℕ → Bool) (text rest : List ℕ) (none : Bool) → rest ≡ from_first p text → none ≡ (length rest == 0) → not none ≡ list_any p text
-stands_somewhere p text rest none rest_is none_is =
-    ap not (none_is ∙ sym (is_empty-is rest) ∙ ap (λ (r : List ℕ). is_empty r) rest_is) ∙ sym (list_any-from_first p text)
 
 pub open_nowhere : (body : List ℕ) → list_any is_brace body ≡ false → list_any is_open_brace body ≡ false
 open_nowhere [] h = refl

@@ -1,11 +1,10 @@
 -- Digits at the front of a text, and the numbers that digits write.
-use Rattle.std.proofs.Common.{◌≡◌, ℕ, suc, ◌+◌, ◌-◌, ◌*◌, ◌^◌, ◌==◌, ◌<◌, ◌≤◌, Bool, true, false, not, cond, ltb, List, [], ◌∷◌, length, get_or, take, take_all, length-take, None, Some, refl, ap, sym, ◌∙◌, inl, inr, arith, pow-suc, mul-le-mul_right}
+use Rattle.std.proofs.Common.{◌≡◌, ℕ, suc, ◌+◌, ◌-◌, ◌*◌, ◌^◌, ◌==◌, ◌<◌, ◌≤◌, Bool, true, false, not, cond, ltb, List, [], ◌∷◌, length, take, take_all, length-take, None, Some, refl, ap, sym, ◌∙◌, inl, inr, arith, pow-suc, mul-le-mul_right}
 use Rattle.std.specs.Prelude.{position, unwrap_or, min, fold}
 use Rattle.std.specs.Char.{is_ascii_digit}
 use Rattle.std.specs.List.{list_all, prefix_len, position_or_len}
 use Rattle.std.proofs.Math.Nat.{pow-le-pow_right}
 use Rattle.std.proofs.lemmas.Bool.{and_parts, both_ways, cases_Bool, false≢true, le-leb, ltb-false}
-use Rattle.std.proofs.lemmas.List.Folds.{length-prefix_len, list_all_at}
 use Rattle.std.proofs.lemmas.List.Sums.{prefix_len-le-length}
 use Rattle.step_model.specs.Probabilities.{digits_value, exponent_amount, front_digits}
 use Rattle.stim_parser.specs.Numbers.{is_number, number_of, value_of}
@@ -26,9 +25,6 @@ digits_end text =
     let le : position_or_len (λ b. not (is_ascii_digit b)) text ≤ length text = prefix_len-le-length (λ b. not (not (is_ascii_digit b))) text in
     place_or (position_or_len (λ b. not (is_ascii_digit b)) text) (length text) le ∙ digits_or_none text
 
-pub length-front_digits : (text : List ℕ) → length (front_digits text) ≡ prefix_len is_ascii_digit text
-length-front_digits text = length-prefix_len is_ascii_digit text
-
 pub front_digits-all : (text : List ℕ) → list_all is_ascii_digit (front_digits text) ≡ true
 front_digits-all [] = refl
 front_digits-all (b ∷ text) =
@@ -39,14 +35,6 @@ front_digits-all (b ∷ text) =
 
 pub digit_small : (d : ℕ) → is_ascii_digit d ≡ true → d < 58
 digit_small d h = grind arith
-
-pub digit_at : (digits : List ℕ) (i : ℕ) → i < length digits → list_all is_ascii_digit digits ≡ true → get_or digits i 0 < 58
-digit_at digits i lt all =
-    digit_small (get_or digits i 0)
-    (elim (cases_Bool (is_ascii_digit (get_or digits i 0))) [
-      | inl e ↦ e
-      | inr e ↦ absurd (both_ways _ (list_all_at is_ascii_digit digits i 0 lt e) all)
-    ])
 
 pub is_number-digits : (text : List ℕ) (b : Bool) → b ≡ (length text == 0) → b ≡ false → is_number text ≡ list_all is_ascii_digit text
 is_number-digits [] b e h = absurd (both_ways b h e)

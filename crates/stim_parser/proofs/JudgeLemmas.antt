@@ -156,24 +156,6 @@ pub keyword-arguments : {O T F : Type 0} (table : Table O T F) (depth : ℕ) (ke
     → first_of (refusals_of_keyword table depth keyword cut) ≡ Some c
 keyword-arguments table depth keyword cut c e = keyword-after table depth keyword cut (Some c) e
 
-pub keyword-target : {O T F : Type 0} (table : Table O T F) (depth : ℕ) (keyword : Keyword O) (cut : Cut) → first_of (refusals_of_arguments table.causes (table.argument_form keyword) cut) ≡ None
-    → has_wrong_target table (table.target_form keyword) cut.targets ≡ true → first_of (refusals_of_keyword table depth keyword cut) ≡ Some table.causes.target
-keyword-target table depth keyword cut e t =
-    keyword-after table depth keyword cut None e ∙ applies _ table.causes.target (refusals_of_amounts table depth keyword cut) t
-
-pub keyword-amounts : {O T F : Type 0} (table : Table O T F) (depth : ℕ) (keyword : Keyword O) (cut : Cut) → first_of (refusals_of_arguments table.causes (table.argument_form keyword) cut) ≡ None
-    → has_wrong_target table (table.target_form keyword) cut.targets ≡ false → first_of (refusals_of_keyword table depth keyword cut) ≡ first_of (refusals_of_amounts table depth keyword cut)
-keyword-amounts table depth keyword cut e t =
-    keyword-after table depth keyword cut None e ∙ passes _ table.causes.target (refusals_of_amounts table depth keyword cut) t
-
-pub amounts-number : {O T F : Type 0} (table : Table O T F) (depth : ℕ) (keyword : Keyword O) (cut : Cut) → has_number_beyond table keyword cut ≡ true
-    → first_of (refusals_of_amounts table depth keyword cut) ≡ Some table.causes.number
-amounts-number table depth keyword cut e =
-    let form = table.target_form keyword in
-    let targets = read_targets table form cut.targets in
-    applies (has_number_beyond table keyword cut) table.causes.number
-    (table.refusals_of_targets form cut.targets targets ++ refusals_of_block table.causes depth keyword (table.turns_of targets)) e
-
 -- what the questions of the targets give, or else those of the block
 pub amounts-targets : {O T F : Type 0} (table : Table O T F) (depth : ℕ) (keyword : Keyword O) (cut : Cut) (found : Option Cause) → has_number_beyond table keyword cut ≡ false
     → first_of (table.refusals_of_targets (table.target_form keyword) cut.targets (read_targets table (table.target_form keyword) cut.targets)) ≡ found

@@ -1,5 +1,5 @@
 -- The steps of the loops that go over a product by two targets, a star and a factor.
-use Rattle.std.proofs.Common.{◌≡◌, ℕ, ◌-◌, ◌<◌, ◌≤◌, Bool, true, false, not, ◌&&◌, ◌||◌, List, [], ◌∷◌, length, take, drop, get_or, refl, sym, ap, ap₂, ◌∙◌, arith}
+use Rattle.std.proofs.Common.{◌≡◌, ℕ, ◌-◌, ◌≤◌, Bool, true, false, not, ◌&&◌, ◌||◌, List, [], ◌∷◌, length, take, drop, get_or, refl, sym, ap, ap₂, ◌∙◌, arith}
 use Rattle.std.proofs.lemmas.List.{take_rest}
 use Rattle.stim_parser.specs.declared.forms.TargetForm.TheVariants.{Products}
 use Rattle.stim_parser.specs.declared.target.Target.{Target}
@@ -59,44 +59,6 @@ over-step has more initial a b rest left targets cut joins new one over =
       omega (arith, less, over.3),
     )
 
--- a factor that the set has
-pub over-again : (has initial : ℕ → Bool) (a b : Target) (rest left targets : List Target) → left ≡ a ∷ b ∷ rest → is_joining a ≡ true
-    → is_factor_within has b ≡ true → IsOver has initial left targets → (goes_on_within initial targets || has_product_of_one targets) ≡ true
-over-again has initial a b rest left targets cut joins old over =
-    sym over.1
-    ∙ ap (λ xs. goes_on_within has xs || has_product_of_one xs) cut
-    ∙ ap (λ j. (j && (is_factor_within has b || goes_on_within has rest)) || has_product_of_one (a ∷ b ∷ rest)) joins
-    ∙ ap (λ f. (f || goes_on_within has rest) || has_product_of_one (a ∷ b ∷ rest)) old
-
--- the product has ended
-pub end-short : (left : List Target) → length left < 2 → (has : ℕ → Bool) → goes_on_within has left ≡ false
-end-short [] h has = refl
-end-short (a ∷ []) h has = refl
-end-short (a ∷ b ∷ rest) h has = absurd (omega arith)
-
-pub end-short-with : (left : List Target) → length left < 2 → (q : ℕ) → goes_on_with q left ≡ false
-end-short-with [] h q = refl
-end-short-with (a ∷ []) h q = refl
-end-short-with (a ∷ b ∷ rest) h q = absurd (omega arith)
-
-pub end-other : (a b : Target) (rest left : List Target) → left ≡ a ∷ b ∷ rest → is_joining a ≡ false → (has : ℕ → Bool) → goes_on_within has left ≡ false
-end-other a b rest left cut e has =
-    ap (goes_on_within has) cut ∙ ap (λ j. j && (is_factor_within has b || goes_on_within has rest)) e
-
-pub end-other-with : (a b : Target) (rest left : List Target) → left ≡ a ∷ b ∷ rest → is_joining a ≡ false → (q : ℕ) → goes_on_with q left ≡ false
-end-other-with a b rest left cut e q =
-    ap (goes_on_with q) cut ∙ ap (λ j. j && (is_factor_at q b || goes_on_with q rest)) e
-
--- what was asked of the whole is asked of what follows
-pub over-asked : (has initial : ℕ → Bool) (left targets : List Target) → ((any : ℕ → Bool) → goes_on_within any left ≡ false)
-    → IsOver has initial left targets → (goes_on_within initial targets || has_product_of_one targets) ≡ has_product_of_one left
-over-asked has initial left targets ends over = sym over.1 ∙ ap (λ g. g || has_product_of_one left) (ends has)
-
--- the set has what it had and the qubits of the product
-pub over-named : (has initial : ℕ → Bool) (left targets : List Target) → ((q : ℕ) → goes_on_with q left ≡ false)
-    → IsOver has initial left targets → (q : ℕ) → has q ≡ (goes_on_with q targets || initial q)
-over-named has initial left targets ends over q = sym (ap (λ g. g || has q) (ends q)) ∙ over.2 q
-
 -- ---- back over a product
 
 abbrev pub IsBack : (has initial : ℕ → Bool) (left targets : List Target) → Type 0
@@ -110,10 +72,6 @@ back-step has less initial a b rest left targets cut joins one back = (
   (beyond-second a b rest left cut back.0).1,
   λ q. unnamed-step q a b rest (has q) (less q) (not (goes_on_with q targets) && initial q) joins (one q) (sym (ap (λ xs. not (goes_on_with q xs) && has q) cut) ∙ back.1 q),
 )
-
-pub back-done : (has initial : ℕ → Bool) (left targets : List Target) → ((q : ℕ) → goes_on_with q left ≡ false)
-    → IsBack has initial left targets → (q : ℕ) → has q ≡ (not (goes_on_with q targets) && initial q)
-back-done has initial left targets ends back q = sym (ap (λ g. not g && has q) (ends q)) ∙ back.1 q
 
 -- ---- product after product
 

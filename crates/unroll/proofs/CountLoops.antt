@@ -62,14 +62,6 @@ turned-step m (p ∷ b) (q ∷ c) (suc j) h e =
     ap (λ (ns : List ℕ). (q + m * (q - p)) ∷ ns) (turned-step m b c j (omega (arith, h)) (omega (arith, e)))
     ∙ ap (λ (n : ℕ). turned_by m (take n (p ∷ b)) (take n (q ∷ c)) ++ drop n (q ∷ c)) (sym next)
 
-pub turned-enough : (m : ℕ) (b c : List ℕ) (n : ℕ) → length c ≤ n → length b ≡ length c → turned_by m (take n b) (take n c) ++ drop n c ≡ turned_by m b c
-turned-enough m [] [] zero h e = refl
-turned-enough m [] [] (suc n) h e = refl
-turned-enough m [] (q ∷ c) n h e = absurd (omega (arith, e))
-turned-enough m (p ∷ b) [] n h e = absurd (omega (arith, e))
-turned-enough m (p ∷ b) (q ∷ c) zero h e = absurd (omega (arith, h))
-turned-enough m (p ∷ b) (q ∷ c) (suc n) h e = ap (λ (ns : List ℕ). (q + m * (q - p)) ∷ ns) (turned-enough m b c n (omega (arith, h)) (omega (arith, e)))
-
 pub length-turned : (m : ℕ) (b c : List ℕ) → length b ≡ length c → length (turned_by m b c) ≡ length c
 length-turned m [] [] e = refl
 length-turned m [] (q ∷ c) e = absurd (omega (arith, e))

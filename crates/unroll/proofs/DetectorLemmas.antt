@@ -75,7 +75,3 @@ detecting-done t i r found blocks h le =
 pub within-limit : (r d limit : ℕ) (lists : List (List ℕ)) → r + d < limit → All (IsWithin r) lists → All (All (λ n. n + d < limit)) lists
 within-limit r d limit lists lt h =
     All-weaker (IsWithin r) (All (λ n. n + d < limit)) (λ xs k. All-weaker (λ n. n ≤ r) (λ n. n + d < limit) (λ n m. omega (arith, m, lt)) xs k) lists h
-
-pub below-limit : (d e limit : ℕ) (lists : List (List ℕ)) → d ≤ e → All (All (λ n. n + e < limit)) lists → All (All (λ n. n + d < limit)) lists
-below-limit d e limit lists le h =
-    All-weaker (All (λ n. n + e < limit)) (All (λ n. n + d < limit)) (λ xs k. All-weaker (λ n. n + e < limit) (λ n. n + d < limit) (λ n m. omega (arith, m, le)) xs k) lists h

@@ -1,5 +1,5 @@
 -- Faults appended one after another, with the entries that they name.
-use Rattle.std.proofs.Common.{◌≡◌, ℕ, List, [], ◌∷◌, ◌++◌, map, get_or, inl, inr, refl, sym, ap, subst, ◌∙◌, append_assoc, append-nil}
+use Rattle.std.proofs.Common.{◌≡◌, ℕ, List, [], ◌∷◌, ◌++◌, map, get_or, inl, inr, refl, sym, ap, subst, ◌∙◌, append_assoc}
 use Rattle.std.proofs.lemmas.List.{map_push}
 use Rattle.programs.specs.declared.step.TextStep.{TextStep}
 use Rattle.programs.specs.declared.step.TextStep.TheVariants as step
@@ -65,9 +65,3 @@ faulting-next number terms e left rest whole b now next g now_kept next_kept f c
       all = append_assoc f.so_far (entry ∷ []) rest ∙ ap (λ (ks : List Kept). f.so_far ++ ks) (sym cut) ∙ f.all;
       adds = faults-more f.so_far number terms e b now next g now_kept next_kept f.adds named pushed;
     }
-
-pub faulting-done : (left whole : List Kept) (b now : Building) (g now_kept : Gathered) → IsFaulting left whole b now g now_kept → left ≡ [] → AddsFaults whole b now g now_kept
-faulting-done left whole b now g now_kept f none =
-    subst (λ (ks : List Kept). AddsFaults ks b now g now_kept)
-    (sym (append-nil f.so_far) ∙ ap (λ (ks : List Kept). f.so_far ++ ks) (sym none) ∙ f.all)
-    f.adds

@@ -129,9 +129,6 @@ more-part k xs lists now first end inside n low e =
 
 -- ---- what an instruction adds to each
 
-same-adds : (b : Bool) (k r : ℕ) (ts : List Target) (list : List ℕ) → b ≡ true → list ++ records_named r ts ≡ list ++ cond b (records_named r ts) []
-same-adds b k r ts list h = ap (λ (c : Bool). list ++ cond c (records_named r ts) []) (sym h)
-
 added-here : (n k r : ℕ) (ts : List Target) (lists : List (List ℕ)) → k < length lists → get_or (cond (ltb n (length lists)) (with_more n (records_named r ts) lists) lists) k [] ≡ get_or lists k [] ++ cond (eqb n k) (records_named r ts) []
 added-here n k r ts lists inside =
     let xs = records_named r ts in

@@ -283,10 +283,6 @@ abbrev pub with_turns : ℕ → OpenBlock (Mark Offset) → Offset → List (Lis
 with_turns n block p found =
     found ++ later (λ k. placing.moved k block.before.place p) n (drop block.before.found found)
 
-pub placing-ends_axes : (t : Tree) (i : ℕ) (p : Offset) (found : List (List ℤ)) (blocks rest : List (OpenBlock (Mark Offset))) (popped : Option (OpenBlock (Mark Offset))) (block : OpenBlock (Mark Offset)) (n : ℕ) → IsPlacing t i p found blocks → HasPopped blocks rest popped block n → HasAxes block.before.place
-placing-ends_axes t i p found blocks rest popped block n h was =
-    (popped-axes blocks rest block (last-is blocks rest popped block n was) h.open_axes).0
-
 pub placing-ends : (t : Tree) (i : ℕ) (p : Offset) (found : List (List ℤ)) (blocks rest : List (OpenBlock (Mark Offset))) (popped : Option (OpenBlock (Mark Offset))) (block : OpenBlock (Mark Offset)) (n : ℕ) → IsPlacing t i p found blocks → Some BlockEnd ≡ slice_get (items_of t) i → HasPopped blocks rest popped block n → IsPlacing t (i + 1) (turned_on n block.before.place p) (with_turns n block p found) rest
 placing-ends t i p found blocks rest popped block n h got was =
     let last = last-is blocks rest popped block n was in

@@ -9,9 +9,6 @@ pub record IsAdding (left whole : List TextStep) (old now : Building) : Type 0 w
   pub outer : now.outer ≡ old.outer
   pub here : now.here ++ left ≡ old.here ++ whole
 
-pub adding-first : (whole : List TextStep) (old : Building) → IsAdding whole whole old old
-adding-first whole old = record { outer = refl; here = refl }
-
 pub adding-next : (s pushed : TextStep) (left rest whole : List TextStep) (old now next : Building) → IsAdding left whole old now → left ≡ s ∷ rest → pushed ≡ s → next ≡ record now { here = now.here ++ pushed ∷ [] } → IsAdding rest whole old next
 adding-next s pushed left rest whole old now next a e p n =
     record {
@@ -37,6 +34,3 @@ added left whole old now a e =
 
 pub adds-none : (b : Building) → Adds [] b b
 adds-none b = record { outer = refl; here = sym (append-nil b.here) }
-
-pub adds-one : (s : TextStep) (old now : Building) → now ≡ record old { here = old.here ++ s ∷ [] } → Adds (s ∷ []) old now
-adds-one s old now e = record { outer = ap (λ (b : Building). b.outer) e; here = ap (λ (b : Building). b.here) e }
