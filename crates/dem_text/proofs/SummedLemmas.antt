@@ -17,8 +17,6 @@ use Rattle.step_model.specs.Targets.{is_listed}
 use Rattle.dem_text.specs.private.Turned.{turned, turned_by}
 use Rattle.dem_text.proofs.SumLemmas.{length-turned_if, symptom-turned, turned-map}
 
--- ---- targets one after another
-
 -- ---- how many error lines
 
 pub count-at : (errors : ℕ) (p : Placed) (rest : List Placed) → passed_after errors p + error_count rest ≡ errors + error_count (p ∷ rest)

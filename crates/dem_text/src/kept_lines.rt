@@ -55,7 +55,7 @@ impl<A: Allocator + Copy> Drop for KeptLines<'_, A> {
 fn line_of_rare<'t, 'a>(text: &'a [u8], rare: Rare, numbers: &'t [i64]) -> Option<TableLine<'t, 'a>>
     requires { IsRareKept text.now rare numbers.now }
     ensures { MatchOption result (HasNoLine (Some (item_of_rare text.now rare)))
-        (λ line. (InstructionLine (instruction_of line) ≡ item_of_rare text.now rare) × IsTableLine line) }
+        (λ line. (Some (InstructionLine (instruction_of line)) ≡ Some (item_of_rare text.now rare)) × IsTableLine line) }
 {
     match rare {
         Rare::Line {

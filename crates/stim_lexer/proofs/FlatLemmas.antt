@@ -1,7 +1,6 @@
 -- Items kept flat: how many there are, which is at a place, and one more of them.
-use Rattle.std.proofs.Common.{◌≡◌, ℕ, zero, suc, ◌<◌, List, [], ◌∷◌, ◌++◌, length, map, get_or, Some, slice_get, refl, sym, ap, ◌∙◌, arith, length-append}
+use Rattle.std.proofs.Common.{◌≡◌, ℕ, zero, suc, ◌<◌, List, [], ◌∷◌, ◌++◌, length, map, get_or, Some, slice_get, refl, sym, ap, ◌∙◌, arith}
 use Rattle.std.proofs.Math.Nat.{suc_inj}
-use Rattle.std.proofs.lemmas.List.{map-append}
 use Rattle.stim_lexer.specs.declared.items.Node.{Node}
 use Rattle.stim_lexer.specs.Instructions.{Instruction}
 use Rattle.stim_lexer.specs.Kept.{item_kept, items_kept, mark_kept}
@@ -47,5 +46,3 @@ mark_at lists nodes {items} {marks} i n view marked same below is =
 
 -- what the methods' goals take
 pub ruleset counts = (length-items_kept)
-
-pub ruleset pushes = (length-append, items_kept-push, map-append)

@@ -96,7 +96,6 @@ impl<'a, O: Copy, T: Copy, S: Short<T>, A: Allocator + Copy> Items<'a, O, T, S, 
 
     /// Appends an item with a copy of its targets. It fails only where memory runs out.
     #[inline(always)]
-    #[tactic(auto, using(crate::proofs::FlatLemmas::pushes))]
     pub(crate) fn push(&mut self, node: Node<'a, O>, targets: &[T]) -> Result<(), AllocError>
         ensures ok { OnOk result
             (self.new

@@ -9,7 +9,7 @@ use Rattle.stim_lexer.specs.Bytes.{is_empty}
 use Rattle.stim_parser.specs.declared.forms.ArgumentForm.{ArgumentForm}
 use Rattle.stim_parser.specs.declared.forms.ArgumentForm.TheVariants.{NoArguments, ProbabilityAtWill, OneProbability, WholeNumbers, Decimals, OneNumber}
 use Rattle.stim_parser.specs.declared.forms.TargetForm.{TargetForm}
-use Rattle.stim_parser.specs.declared.forms.TargetForm.TheVariants.{NoTargets, Qubits, QubitsInvertedAtWill, QubitPairs, PairsRecordFirst, PairsOneRecord, Paulis, Products, Records, Turns}
+use Rattle.stim_parser.specs.declared.forms.TargetForm.TheVariants.{NoTargets, QubitsInvertedAtWill, QubitPairs, PairsRecordFirst, PairsOneRecord, Paulis, Products, Records, Turns}
 use Rattle.stim_parser.specs.declared.target.Target.{Target}
 use Rattle.stim_parser.specs.declared.target.Target.TheVariants.{Plain, Inverted, Back, Pauli, Star}
 use Rattle.stim_parser.specs.Numbers.{is_number, without_minus, value_of, magnitude_of, is_number_beyond, is_qubit_beyond}

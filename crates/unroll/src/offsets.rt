@@ -1,5 +1,5 @@
 ghost use Rattle.std.specs.Prelude.{◌≡◌, ◌-◌, ◌*◌, ◌<◌, ◌≤◌, ◌^◌, ◌≤ℤ◌, pos, neg_ℤ, All, length, map};
-ghost use Rattle.unroll.specs.private.Placing.{IsSmall, down_of, moved_to, raised_by, turned_by, up_of};
+ghost use Rattle.unroll.specs.private.Placing.{IsSmall, amount_of, moved_to, raised_by, turned_by};
 
 use arrayvec::ArrayVec;
 
@@ -13,40 +13,25 @@ pub(crate) struct Offset {
     pub down: [u64; AXES],
 }
 
-/// How far a number goes up.
-fn up_of(number: i64) -> u64
-    ensures { result ≡ up_of number }
+/// How far a number goes up, or down.
+fn amount_of(down: bool, number: i64) -> u64
+    ensures { result ≡ amount_of down number }
 {
-    if number < 0 { 0 } else { number.unsigned_abs() }
-}
-
-/// How far a number goes down.
-fn down_of(number: i64) -> u64
-    ensures { result ≡ down_of number }
-{
-    if number < 0 { number.unsigned_abs() } else { 0 }
-}
-
-/// How far each number goes up.
-pub(crate) fn ups(numbers: &[i64]) -> ArrayVec<u64, AXES>
-    requires { length numbers.now ≤ AXES }
-    ensures { result.items ≡ map up_of numbers.now }
-{
-    let mut found = ArrayVec::new();
-    for number in numbers {
-        found.push(up_of(*number));
+    if (number < 0) == down {
+        number.unsigned_abs()
+    } else {
+        0
     }
-    found
 }
 
-/// How far each number goes down.
-pub(crate) fn downs(numbers: &[i64]) -> ArrayVec<u64, AXES>
+/// How far each number goes up, or down.
+pub(crate) fn amounts(down: bool, numbers: &[i64]) -> ArrayVec<u64, AXES>
     requires { length numbers.now ≤ AXES }
-    ensures { result.items ≡ map down_of numbers.now }
+    ensures { result.items ≡ map (amount_of down) numbers.now }
 {
     let mut found = ArrayVec::new();
     for number in numbers {
-        found.push(down_of(*number));
+        found.push(amount_of(down, *number));
     }
     found
 }

@@ -4,7 +4,7 @@ ghost use Rattle.stim_parser.specs.Coordinates.{coordinates_in};
 ghost use Rattle.stim_parser.specs.Kept.{instruction_in};
 ghost use Rattle.unroll.specs.private.Placing.{downs, placing, raised_by, steps_of, turned_by, turned_on, ups};
 
-use crate::offsets::{AXES, Offset, downs, raise, turn, ups};
+use crate::offsets::{AXES, Offset, amounts, raise, turn};
 use arrayvec::ArrayVec;
 use stim_parser::{Instruction, Operation, put_coordinates};
 
@@ -35,8 +35,8 @@ pub(crate) fn shift(
     match instruction.operation {
         Operation::CoordinateShift => {
             read_stated(numbers, instruction);
-            let up = ups(numbers.as_slice());
-            let down = downs(numbers.as_slice());
+            let up = amounts(false, numbers.as_slice());
+            let down = amounts(true, numbers.as_slice());
             raise(&mut offset.up, up.as_slice());
             raise(&mut offset.down, down.as_slice());
         }

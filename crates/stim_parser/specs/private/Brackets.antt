@@ -1,5 +1,5 @@
 -- A record's text as the parser takes it apart: what stands before its bracket, and the number there. (This project's own.)
-use Rattle.std.specs.Prelude.{ℕ, ◌==◌, ◌-◌, nat_le, Bool, ◌&&◌, if◌then◌else◌, List, length, take, drop, Option, None, Some, option_and_then, codes, bytes_eq, slice_index, slice_range}
+use Rattle.std.specs.Prelude.{ℕ, ◌==◌, ◌-◌, nat_le, ◌&&◌, if◌then◌else◌, List, length, take, drop, Option, None, Some, option_and_then, codes, bytes_eq, slice_index, slice_range}
 use Rattle.stim_parser.specs.Numbers.{number_of}
 
 -- what stands before a `]` at the end

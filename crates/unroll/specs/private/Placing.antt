@@ -2,7 +2,7 @@
 -- moved up, and apart from that how far down, so that neither count ever falls. In a later turn of a block each
 -- coordinate is moved on by what the turns before it shift its axis. (Stim's gate reference,
 -- github.com/quantumlib/Stim, doc/gates.md, "DETECTOR" and "SHIFT_COORDS".)
-use Rattle.std.specs.Prelude.{ℕ, suc, ◌+◌, ◌-◌, ◌*◌, ◌^◌, ◌≤ℤ◌, ℤ, pos, negsuc, neg_ℤ, ◌+ℤ◌, List, [], ◌∷◌, get_or, map, replicate}
+use Rattle.std.specs.Prelude.{ℕ, suc, ◌+◌, ◌-◌, ◌*◌, ◌^◌, ◌≤ℤ◌, ℤ, pos, negsuc, neg_ℤ, ◌+ℤ◌, Bool, true, false, List, [], ◌∷◌, get_or, map, replicate}
 use Rattle.std.specs.List.{range_with_len}
 use Rattle.flat_lists.specs.Turns.{moved_by}
 use Rattle.stim_parser.specs.declared.operation.Operation.{Operation}
@@ -22,6 +22,10 @@ up_of (negsuc n) = 0
 abbrev pub down_of : ℤ → ℕ
 down_of (pos n) = 0
 down_of (negsuc n) = suc n
+
+abbrev pub amount_of : Bool → ℤ → ℕ
+amount_of true = down_of
+amount_of false = up_of
 
 -- counts with more added at each place; there are as many as before
 abbrev pub raised_by : List ℕ → List ℕ → List ℕ
