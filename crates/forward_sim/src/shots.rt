@@ -8,7 +8,7 @@ use crate::side_draws::draw_lanes;
 use crate::span::Span;
 use programs::Program;
 use rand_pcg::Pcg64;
-use std::alloc::{AllocError, Allocator};
+use std::alloc::Allocator;
 use std::marker::Model;
 use step_model::Fault;
 
@@ -49,8 +49,8 @@ impl<A: Allocator + Copy> Shots<A> {
         ensures err { IfErr result (λ fault. fault ≡ memory_fault) }
     {
         let runs = bound_runs(alloc, program)?;
-        let faults = zeros(alloc, program.fault_count() as usize)?;
-        let coins = zeros(alloc, program.collapse_count() as usize)?;
+        let faults = vec![in alloc; 0u64; program.fault_count() as usize]?;
+        let coins = vec![in alloc; 0u64; program.collapse_count() as usize]?;
         Ok(Shots {
             runs,
             passed,
@@ -93,10 +93,4 @@ impl<A: Allocator + Copy> Shots<A> {
     {
         self.coins.as_slice()
     }
-}
-
-fn zeros<A: Allocator + Copy>(alloc: A, count: usize) -> Result<Vec<u64, A>, AllocError>
-    ensures { IfOk result (λ words. words.items ≡ replicate count 0) }
-{
-    vec![in alloc; 0u64; count]
 }
