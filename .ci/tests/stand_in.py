@@ -12,26 +12,33 @@ import unittest
 REPOSITORY = os.path.dirname(os.path.dirname(os.path.dirname(os.path.abspath(__file__))))
 
 # All that the launcher and its scripts call. The tests' PATH has these, and no real rt.
-TOOLS = """awk basename bash cat chmod cksum cp dirname env find flock mkdir mv nproc readlink rm sed sh sha256sum sleep sort
-touch xargs""".split()
+TOOLS = """awk basename bash cat chmod cksum cp dirname env find flock mkdir mktemp mv nproc readlink rm sed sh sha256sum sleep sort
+tac touch xargs""".split()
 
-# Notes its words, and builds by a copy of the stand-in program that names the code in which it was built. A file beside it
-# asks for something else: `sleeps` for a build that doesn't end, `slow` for one of a second, `fails` for one that fails, `fails-to-check`
-# for one that fails at its first command, `fails-behind` for one that fails when the program is written, `builds-nothing` for one that
-# writes none, and `edits` for code that changes after it was read. Each command leaves what the real one keeps of a check.
+# Notes its words and the copy's lines, and builds by a copy of the stand-in program that names the code in which it was built. A file
+# beside it asks for something else: `sleeps` for a build that doesn't end, `slow` for one of a second, `fails` for one that fails,
+# `fails-to-check` for a check that fails, `fails-behind` for a build that fails when the program is written, `builds-nothing` for one
+# that writes none, and `edits` for code that changes after it was read. A check leaves what the real one keeps.
 RT = """#!/bin/sh
 here=${0%/*}
 echo "$*" >>"$here/calls"
 echo "${GLIBC_TUNABLES-unset}" >>"$here/tunables"
 cat >>"$here/stdin"
-mkdir -p ../low/out/incremental ../low/out/rlib
-[ "$1" = run ] || { [ ! -e "$here/fails-to-check" ]; exit; }
+if [ "$1" = ci ]; then
+    pwd >"$here/copy"
+    find . -type f | sort >"$here/copied"
+    cat crates.txt >>"$here/copied"
+    cd crates/stabsim && mkdir out || exit 1
+else
+    mkdir -p ../low/out/incremental ../low/out/rlib
+    [ "$1" = run ] || { [ ! -e "$here/fails-to-check" ]; exit; }
+fi
 [ -e "$here/sleeps" ] && { touch "$here/sleeping"; sleep 100; }
 [ -e "$here/slow" ] && sleep 1
 [ -e "$here/fails" ] && { echo 'goal 7 is open'; echo 'not proved' >&2; exit 1; }
 [ -e "$here/builds-nothing" ] && exit 0
 code=$(cat src/main.rt)
-[ -e "$here/edits" ] && { rm "$here/edits"; echo 'edited meanwhile' >src/main.rt; sleep 0.1; }
+[ -e "$here/edits" ] && { rm "$here/edits"; echo 'edited meanwhile' >"$here/../repository/crates/stabsim/src/main.rt"; sleep 0.1; }
 sed "s|CODE|$code|" "$here/program" >out/stabsim
 chmod +x out/stabsim
 [ -e "$here/fails-behind" ] && exit 1
@@ -46,9 +53,13 @@ exit "${STAND_IN_STATUS-0}"
 """
 
 FILES = {
-    "crates.txt": "low:\nstabsim: low\n",
+    "crates.txt": "# Ground.\nbase:\nlow: base arrayvec\n\n# The program.\nstabsim: clap low\n\n# Tests.\nlow_tests: low\n",
     "HANDLES": "Handles allowed: none.\n",
     "README.md": "Read me.\n",
+    "crates/base/src/lib.rt": "base\n",
+    "crates/base/must-fail/wrong.edit": "file: src/lib.rt\n",
+    "crates/base/wrong-bodies/wrong.edit": "file: src/lib.rt\n",
+    "crates/low_tests/src/lib.rt": "tests\n",
     "crates/low/src/lib.rt": "low\n",
     "crates/low/src/part.rt": "part\n",
     "crates/low/src/deep/inner.rt": "inner\n",
@@ -198,10 +209,13 @@ class Case(unittest.TestCase):
         self.assertEqual(ended.stdout, self.expected("word", code=code))
         self.assertEqual(ended.returncode, 0)
         self.assertIn(b"proving and building the program", ended.stderr)
-        lanes, run = self.calls()
-        self.assertRegex(lanes, r"^all check --jobs [1-9][0-9]*$")
-        self.assertEqual(run, "run -- --help")
+        self.assertEqual(self.calls(), ["ci"])
+        self.assert_no_copy()
         self.assert_is_quick(code=code)
+
+    def assert_no_copy(self):
+        """Asserts that the copy in which the last build was made is gone."""
+        self.wait_for(lambda: not os.path.exists(self.read(f"{self.rt}/copy").strip()))
 
     def assert_is_quick(self, code="first code"):
         """Asserts that a call looks at times alone and runs the program."""
@@ -209,6 +223,10 @@ class Case(unittest.TestCase):
         self.assert_runs("word", code=code)
         shutil.move(f"{self.room}/away", f"{self.top}/.ci")
         self.assertEqual(self.calls(), [])
+
+    def keep(self):
+        """Leaves what a check keeps."""
+        os.makedirs(f"{self.top}/crates/low/out/incremental/kept")
 
     def make_missing(self):
         if os.path.exists(self.program):

@@ -12,7 +12,7 @@ class Places(Case):
         self.make_missing()
         ended = self.call("a word", launcher=launcher, cwd=cwd, **how)
         self.assertEqual(ended.stdout, self.expected("a word", cwd=cwd))
-        self.assertEqual(len(self.calls()), 2)
+        self.assertEqual(self.calls(), ["ci"])
 
     def link(self, target, name):
         os.makedirs(os.path.dirname(f"{self.room}/{name}"), exist_ok=True)

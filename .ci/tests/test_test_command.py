@@ -57,7 +57,7 @@ class RunsAllTests(Case):
         self.write(f"{self.room}/modules/numpy.py", "")
         os.symlink(sys.executable, f"{self.tools}/python3")
         self.write(f"{self.tools}/parallel", "#!/bin/sh\necho GNU parallel 1\n", mode=0o755)
-        for name in ("grep", "mktemp", "tail", "tee"):
+        for name in ("grep", "tail", "tee"):
             os.symlink(shutil.which(name), f"{self.tools}/{name}")
 
     def ask(self, *names, text=""):

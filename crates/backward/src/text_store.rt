@@ -13,8 +13,11 @@ use step_model::ChanceText;
 /// How many times its room a whole text may take, so that it is found in one pass.
 const WHOLE: usize = 5;
 
-/// The same for a part of a text, so that it isn't parted again where it is little longer than others.
-const WHOLE_PART: usize = 2;
+/// How many times as much room a whole text has as a part: the less one has, the less memory a long text takes.
+const PARTS: usize = 4;
+
+/// How many times its room a part may take, so that it isn't parted again where it is longer than others.
+const WHOLE_PART: usize = 8;
 
 /// A text that is to be whole grows by its room in this many steps, and whether it still seems to fit is thought about
 /// after each.
@@ -33,7 +36,7 @@ pub(crate) struct TextStore<'p, 'a, A: Allocator + Copy> {
     // For each part of the table the number of its text among those that are kept beside the lines.
     numbers: Vec<usize, A>,
     text: LinesText<'a, A>,
-    // From how many bytes on the text is full, and how many it may have where it seems to be whole then.
+    // From how many bytes on the text of a part is full, and how many a text may have where it seems to be whole then.
     room: usize,
     whole: usize,
     ghost fits: { IsTextFor program.now chances numbers.items text },
@@ -56,7 +59,7 @@ impl<A: Allocator + Copy> Drop for TextStore<'_, '_, A> {
 }
 
 impl<'p, 'a, A: Allocator + Copy> TextStore<'p, 'a, A> {
-    /// No lines, and from how many bytes on their text is full.
+    /// No lines, and how much room their text has.
     pub(crate) fn new(
         alloc: A,
         program: &'p Program<'a, A>,
@@ -74,7 +77,7 @@ impl<'p, 'a, A: Allocator + Copy> TextStore<'p, 'a, A> {
             chances,
             numbers,
             text,
-            room,
+            room: room / PARTS,
             whole: room.saturating_mul(WHOLE),
         })
     }
