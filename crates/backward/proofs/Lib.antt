@@ -4,6 +4,7 @@ pub mod Judging
 mod HeldLines
 mod LinkLemmas
 mod NumberedLemmas
+pub mod PassFaults
 pub mod PassLines
 pub mod PassPlaces
 pub mod PassRecords

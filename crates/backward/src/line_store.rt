@@ -1,5 +1,5 @@
 //! Where a pass puts the error lines that it finds, the last fault's first.
-ghost use Rattle.std.specs.Prelude.{◌≡◌, ◌<◌, ◌∷◌, [], false, List, length, All, OnOk};
+ghost use Rattle.std.specs.Prelude.{◌≡◌, ◌<◌, ◌∷◌, [], List, length, All, OnOk};
 ghost use Rattle.step_model.specs.ErrorModels.{ErrorLine};
 ghost use Rattle.programs.specs.Kept.{KeptProgram, kept_at};
 ghost use Rattle.step_model.specs.Targets.{targets_of};
@@ -16,10 +16,6 @@ pub(crate) trait LineStore {
 
     // These lines were given to it, in this order.
     ghost holds: { Self → List ErrorLine → Type 0 };
-
-    /// Whether lines are to be found for it.
-    fn wants(&self) -> bool
-        ensures { result ≡ false → (more : List ErrorLine) → Gives (holds self.now) (holds self.now) more };
 
     /// Takes the line of a fault with this entry, which flips these targets.
     fn give(&mut self, entry: u32, targets: &[u32]) -> Result<(), AllocError>
@@ -41,10 +37,6 @@ impl<'p, 'a, A: Allocator + Copy> LineStore for ModelStore<'p, 'a, A> {
 
     ghost holds = { λ store lines. store.model.lines ≡ lines };
 
-    fn wants(&self) -> bool {
-        true
-    }
-
     fn give(&mut self, entry: u32, targets: &[u32]) -> Result<(), AllocError> {
         self.model
             .push_line(self.program.entry_text(entry), targets)
@@ -63,10 +55,6 @@ impl<'p, 'a, A: Allocator + Copy> LineStore for NoLines<'p, 'a, A> {
     ghost program = { λ store. store.program.now };
 
     ghost holds = { λ store lines. ⊤ };
-
-    fn wants(&self) -> bool {
-        false
-    }
 
     fn give(&mut self, _entry: u32, _targets: &[u32]) -> Result<(), AllocError> {
         Ok(())

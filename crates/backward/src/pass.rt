@@ -169,7 +169,7 @@ fn note_line<'a, A: Allocator + Copy, L: LineStore>(
     }
 }
 
-// Goes back over a fault: gives the line of the targets whose words it anticommutes with, where lines are wanted.
+// Goes back over a fault: gives the line of the targets whose words it anticommutes with.
 fn fault<'s, 'p, 'a, A: Allocator + Copy, T: Tracker, L: LineStore>(
     program: &Program<'a, A>,
     name: FaultName,
@@ -185,9 +185,6 @@ fn fault<'s, 'p, 'a, A: Allocator + Copy, T: Tracker, L: LineStore>(
     ensures { IsGoneOver T.tracked L.program L.holds program.now.listing at.old at.new found.old
         found.new lines.old lines.new result }
 {
-    if !lines.wants() {
-        return Ok(());
-    }
     program.well_formed();
     let terms = program.entry_terms(name.entry);
     at.tracker.hit(terms, &mut found.hit)?;

@@ -39,6 +39,9 @@ pub(crate) fn leave_points<'s, 'p, 'a, A: Allocator + Copy, T: Tracker>(
             leave(&mut points, at)?;
             next = next.saturating_sub(distance);
         }
+        // Faults change nothing where no lines are found. One step is left, so that each turn goes back.
+        let stop = next.max(from).saturating_add(1).min(at.walk.place());
+        at.walk.pass_faults_back(stop);
         step_back(program, at, found, &mut NoLines { program })?;
     }
     Ok(points)

@@ -166,10 +166,6 @@ impl<'p, 'a, A: Allocator + Copy> LineStore for TextStore<'p, 'a, A> {
 
     ghost holds = { λ store lines. HoldsLines store.text lines };
 
-    fn wants(&self) -> bool {
-        true
-    }
-
     fn give(&mut self, entry: u32, targets: &[u32]) -> Result<(), AllocError> {
         let chance = self.chances.numbers[entry as usize];
         self.text.put_line(self.numbers[chance], targets)

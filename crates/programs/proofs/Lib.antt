@@ -20,3 +20,4 @@ pub mod WalkSteps
 pub mod FoundLaws
 pub mod FaultOrders
 pub mod Walking
+pub mod FaultRuns

@@ -1,8 +1,9 @@
 -- What moving a place does: some moves go over no step, others go over one.
 -- (Stim's circuit format, github.com/quantumlib/Stim, doc/file_format_stim_circuit.md; how it is kept is this project's own.)
-use Rattle.std.specs.Prelude.{⊤, ◌≡◌, ◌+◌, Bool, true, false, ℕ, zero, suc, List, length, Option, None, Some, slice_get}
+use Rattle.std.specs.Prelude.{⊤, ◌≡◌, ◌+◌, ◌<◌, ◌≤◌, Bool, true, false, ℕ, zero, suc, List, length, Option, None, Some, slice_get}
 use Rattle.programs.specs.declared.node.Node.{Node}
 use Rattle.programs.specs.declared.step.TextStep.{TextStep}
+use Rattle.programs.specs.declared.step.TextStep.TheVariants.{Fault}
 use Rattle.programs.specs.declared.node.Node.TheVariants.{Do, Open, Close}
 use Rattle.programs.specs.declared.place.Place.{Place}
 use Rattle.programs.specs.Trees.{IsCircuit, tree_of, unrolled}
@@ -41,6 +42,11 @@ is_step None = false
 is_step (Some (Do step)) = true
 is_step (Some (Open turns size)) = false
 is_step (Some (Close turns size)) = false
+
+-- whether there is a node, and it is a fault
+abbrev pub is_fault_node : Option Node → Bool
+is_fault_node (Some (Do (Fault entry))) = true
+is_fault_node other = false
 
 -- a move over no step, to where this node is ahead or none is: the answer says whether it is a step, and there is none
 -- where it isn't
@@ -85,3 +91,11 @@ pub record StaysAtStart (nodes : List Node) (old new : Place) (k : ℕ) : Type 0
 abbrev pub PreviousStep : List Node → Place → Place → Option TextStep → Type 0
 PreviousStep nodes old new None = (k : ℕ) → IsAt nodes old k → StaysAtStart nodes old new k
 PreviousStep nodes old new (Some step) = (k : ℕ) → IsAt nodes old k → GoesBackOver nodes old new step k
+
+-- a move back over so many faults, `most` at most: none only where no step is before, or one that is no fault
+pub record PreviousFaults (nodes : List Node) (old new : Place) (most count : ℕ) : Type 0 where
+  pub kept : KeepsStep nodes old (record { index = new.index + count; turns = new.turns })
+  pub few : count ≤ most
+  pub each : (i : ℕ) → new.index ≤ i → i < new.index + count → is_fault_node (slice_get nodes i) ≡ true
+  pub none : 0 < most → count ≡ 0 → is_fault_node (node_before nodes new.index) ≡ false
+  pub start : is_step (node_before nodes new.index) ≡ false → count ≡ 0 → node_before nodes new.index ≡ None

@@ -3,7 +3,7 @@ ghost use Rattle.programs.specs.declared.kept_node.BlockSize.{BlockSize};
 ghost use Rattle.programs.specs.declared.node.Node.TheVariants.{Do};
 ghost use Rattle.programs.specs.declared.step.TextStep.TheVariants.{Collapse, CollapseWord};
 ghost use Rattle.programs.specs.private.KeptNodes.{node_of, recorded, flipped, NamesBlockBelow};
-ghost use Rattle.programs.specs.Steps.{is_step};
+ghost use Rattle.programs.specs.Steps.{is_step, is_fault_node};
 
 use crate::node::Node;
 use crate::step::{Recording, TextStep};
@@ -205,6 +205,14 @@ pub(crate) fn is_step(kept: KeptNode) -> bool
         kept,
         KeptNode::Unclosed | KeptNode::Open(_) | KeptNode::Close(_)
     )
+}
+
+/// Whether a fault is kept so.
+#[inline(always)]
+pub(crate) fn is_fault(kept: KeptNode) -> bool
+    ensures { (sizes : List BlockSize) → result ≡ is_fault_node (Some (node_of sizes kept)) }
+{
+    matches!(kept, KeptNode::Fault(_))
 }
 
 /// The step that is kept so.

@@ -1,9 +1,10 @@
 //! The nodes of a circuit, each kept in few bytes.
-ghost use Rattle.std.specs.Prelude.{◌≡◌, ◌<◌, ◌^◌, [], ◌∷◌, ◌++◌, length, set, take, true, IfOk, OnOk, OnErr, Some, slice_get};
+ghost use Rattle.std.specs.Prelude.{◌≡◌, ◌<◌, ◌≤◌, ◌^◌, [], ◌∷◌, ◌++◌, length, set, take, true, IfOk, OnOk, OnErr, Some, slice_get};
 ghost use Rattle.programs.specs.declared.node.Node.TheVariants.{Do, Open, Close};
-ghost use Rattle.programs.specs.Steps.{is_step};
+ghost use Rattle.programs.specs.Steps.{is_step, is_fault_node};
+ghost use Rattle.programs.specs.Walks.{PassesBack};
 
-use crate::kept_node::{BlockSize, KeptNode, is_step, kept_step, node_of, step_of};
+use crate::kept_node::{BlockSize, KeptNode, is_fault, is_step, kept_step, node_of, step_of};
 use crate::node::Node;
 use crate::step::TextStep;
 use std::alloc::{AllocError, Allocator};
@@ -72,6 +73,19 @@ impl<A: Allocator + Copy> Nodes<A> {
         ensures { slice_get self.now index ≡ Some (Do result) }
     {
         step_of(self.kept[index])
+    }
+
+    /// Where the faults begin that stand right before an index: those from `least` on.
+    pub(crate) fn faults_back(&self, index: usize, least: usize) -> usize
+        requires least { least ≤ index }
+        requires within { index ≤ length self.now }
+        ensures { PassesBack (λ i. is_fault_node (slice_get self.now i)) least index result }
+    {
+        let mut first = index;
+        while least < first && is_fault(self.kept[first - 1]) {
+            first -= 1;
+        }
+        first
     }
 
     /// The node at an index, if there is one.

@@ -1,5 +1,5 @@
 ghost use Rattle.std.specs.Prelude.{◌≡◌, ◌<◌, ◌+◌, ◌^◌, length, None, IfSome, slice_get};
-ghost use Rattle.programs.specs.Steps.{StandsIn, KeepsStep, MovesTo, IsNoOpen, IsNoClose, NextStep, PreviousStep, is_step, node_before};
+ghost use Rattle.programs.specs.Steps.{StandsIn, KeepsStep, MovesTo, IsNoOpen, IsNoClose, NextStep, PreviousStep, PreviousFaults, is_step, node_before};
 
 use crate::node::Node;
 use crate::nodes::Nodes;
@@ -188,6 +188,23 @@ pub fn previous<A: Allocator + Copy>(nodes: &Nodes<A>, place: &mut Place) -> Opt
     let step = nodes.step(place.index - 1);
     place.index -= 1;
     Some(step)
+}
+
+// Goes back over the faults that stand before a place in one turn, over `most` at most, and answers how many these are.
+pub fn previous_faults<A: Allocator + Copy>(
+    nodes: &Nodes<A>,
+    place: &mut Place,
+    most: usize,
+) -> usize
+    requires { StandsIn nodes.now place.old }
+    ensures { PreviousFaults nodes.now place.old place.new most result }
+{
+    if !go_back_to_step(nodes, place) {
+        return 0;
+    }
+    let index = place.index;
+    place.index = nodes.faults_back(index, index.saturating_sub(most));
+    index - place.index
 }
 
 // Whether the node before a place is a step.

@@ -1,8 +1,9 @@
-ghost use Rattle.std.specs.Prelude.{◌≡◌, ◌+◌, ◌-◌, ◌==◌, if◌then◌else◌, nat_lt, length, None, IfSome, option_map, slice_get};
+ghost use Rattle.std.specs.Prelude.{◌≡◌, ◌+◌, ◌-◌, ◌<◌, ◌≤◌, ◌==◌, ℕ, true, false, if◌then◌else◌, nat_lt, length, None, IfSome, option_map, slice_get};
 ghost use Rattle.programs.specs.Listed.{listed};
 ghost use Rattle.programs.specs.Named.{IsStepOf};
+ghost use Rattle.programs.specs.Walks.{PassesBack, is_fault};
 
-use crate::place::{Place, next, previous};
+use crate::place::{Place, next, previous, previous_faults};
 use crate::program::{Program, Text};
 use crate::step::{Counts, Step, after, before, number};
 use arrayvec::ArrayVec;
@@ -132,5 +133,36 @@ impl<'a, 'p, A: Allocator + Copy> Walk<'a, 'p, A> {
         self.counts = before(self.counts, step);
         self.steps -= 1;
         Some(number(self.counts, step))
+    }
+
+    /// Goes back over the faults that stand right before the place, to `from` at most.
+    pub fn pass_faults_back(&mut self, from: usize)
+        requires { from ≤ self.old.place }
+        ensures program { self.new.program ≡ self.old.program }
+        ensures passed { PassesBack
+            (λ k. is_fault (slice_get self.old.program.listing.steps k))
+            from self.old.place self.new.place }
+    {
+        while from < self.steps && self.pass_run(from) {}
+    }
+
+    // Goes back over those that stand in one turn of a block, and answers whether there are any.
+    fn pass_run(&mut self, from: usize) -> bool
+        requires { from < self.old.place }
+        ensures program { self.new.program ≡ self.old.program }
+        ensures above { from ≤ self.new.place }
+        ensures below { self.new.place ≤ self.old.place }
+        ensures each { (k : ℕ)
+            → self.new.place ≤ k
+            → k < self.old.place
+            → is_fault (slice_get self.old.program.listing.steps k) ≡ true }
+        ensures some { result ≡ true → self.new.place < self.old.place }
+        ensures none { result ≡ false
+            → is_fault (slice_get self.old.program.listing.steps (self.new.place - 1)) ≡ false }
+    {
+        let count = previous_faults(self.text.nodes, &mut self.place, self.steps - from);
+        self.counts.faults -= count as u32;
+        self.steps -= count;
+        0 < count
     }
 }

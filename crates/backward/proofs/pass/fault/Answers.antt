@@ -10,20 +10,6 @@ use Rattle.backward.proofs.PassSteps.{fault_line, passed-fault, words_of_size}
 use Rattle.backward.proofs.StepLemmas.{over_failed, stays_as}
 use Rattle.backward.proofs.pass.fault.Goals as goal
 
-pub returns-then-not-wants : goal.returns-then-not-wants
-returns-then-not-wants g c =
-    let at = c.args.at.now in
-    record {
-      undone =
-          record {
-            walk = refl;
-            passed = passed-fault c.args.program.now at.walk.place (g.T.Tracker.tracked at.tracker) c.args.found.now c.requires.passed c.args.name.number _ c.requires.step refl;
-            stays = stays_as refl refl refl;
-          };
-      lines = c.wants.ensures c.if-not-wants.true _;
-      store = refl;
-    }
-
 pub returns-in_err-hit : goal.returns-in_err-hit
 returns-in_err-hit g c = over_failed (err_from_is_err_and c.from_residual.result c.from_residual.ensures.1).1 refl (stays_as refl refl refl) refl
 

@@ -2,6 +2,7 @@ use Rattle.std.proofs.Common.{◌≡◌, ◌<◌, ◌≤◌, [], inl, inr, lengt
 use Rattle.std.specs.Prelude.{All}
 use Rattle.backward.specs.private.Points.{ArePoints}
 use Rattle.backward.proofs.PointLemmas.{end_of_way, kept_on_way, left_behind, left_on_way, step_before}
+use Rattle.backward.proofs.PassFaults.{passed-faults}
 use Rattle.backward.proofs.StepLemmas.{stays_as, stays_on}
 use Rattle.backward.proofs.points.leave_points.Goals as goal
 use Rattle.backward.proofs.points.leave_points.Goals.{then-place-next+in_ok-leave, else-place-next}
@@ -19,6 +20,12 @@ loop-at-init g c =
       behind = λ k d lt. absurd (omega (arith, lt, ap length none));
     }
 
+pub step_back-requires-clause-passed : goal.step_back-requires-clause-passed
+step_back-requires-clause-passed g c =
+    let l = c.loop-at in
+    let at = l.at in
+    passed-faults c.args.program.now (g.T.Tracker.tracked at.tracker) l.found at.walk.program _ at.walk.place c.pass_faults_back.new.self.place (l.invariant.program_is ∙ c.requires.program) c.pass_faults_back.ensures.passed l.invariant.passed
+
 pub loop-at-preserved : goal.loop-at-preserved
 loop-at-preserved g c =
     let tracked = g.T.Tracker.tracked in
@@ -28,9 +35,10 @@ loop-at-preserved g c =
     let place = l.at.walk.place in
     let e = c.in_ok-step_back.ensures in
     let at = c.step_back.new.at in
+    let passed = c.pass_faults_back.ensures.passed in
     let points = c.if-place-next.points.items in
     let above : c.args.from < place = omega (arith, c.loop-at-test.true, c.place.ensures) in
-    let back : at.walk.place < place = omega (arith, e.place, above) in
+    let back : at.walk.place < place = omega (arith, e.place, above, passed.above, passed.below) in
     let left : ArePoints program c.args.from cut points × All (λ p. place ≤ p.walk.place) points =
     elim c.if-place-next.branch [
       | then-place-next+in_ok-leave w ↦
@@ -47,7 +55,7 @@ loop-at-preserved g c =
           )
     ] in
     record {
-      program_is = e.program ∙ l.invariant.program_is;
+      program_is = e.program ∙ (c.pass_faults_back.ensures.program ∙ l.invariant.program_is);
       above = omega (arith, e.place, above);
       below = omega (arith, back, l.invariant.below);
       passed = e.passed;

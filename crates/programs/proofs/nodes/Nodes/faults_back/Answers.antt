@@ -1,0 +1,41 @@
+use Rattle.std.proofs.Common.{◌≡◌, true, inl, inr, ◌-◌, length, ap, subst, sym, ◌∙◌, arith}
+use Rattle.std.specs.Prelude.{slice_get}
+use Rattle.std.proofs.lemmas.Bool.{cases_lt}
+use Rattle.std.proofs.lemmas.List.{length-map}
+use Rattle.programs.specs.Steps.{is_fault_node}
+use Rattle.programs.specs.private.KeptNodes.{node_of}
+use Rattle.programs.proofs.NodeLaws.{node_at}
+use Rattle.programs.proofs.nodes.Nodes.faults_back.Given.{Over}
+use Rattle.programs.proofs.nodes.Nodes.faults_back.Goals as goal
+use Rattle.programs.proofs.nodes.Nodes.faults_back.Goals.{After-is_fault}
+
+-- what was asked of the node before
+asked : (g : Over) (c : After-is_fault g) → is_fault_node (slice_get c.args.self.now (c.loop-first.first - 1)) ≡ c.is_fault.result
+asked g c =
+    let sizes = c.self.inside.sizes.items in
+    let kept = c.self.inside.kept.items in
+    ap is_fault_node (node_at sizes kept c.args.self.now (c.loop-first.first - 1) c.index.result.now c.self.view_is (omega (arith, ap length c.self.view_is, length-map kept (node_of sizes))) c.index.ensures)
+    ∙ sym (c.is_fault.ensures sizes)
+
+pub loop-first-preserved : goal.loop-first-preserved
+loop-first-preserved g c =
+    let at = goal.at.loop-first-preserved g c in
+    record {
+      above = omega arith;
+      below = omega arith;
+      each = λ i from to. elim (cases_lt i c.loop-first.first) [
+        | inl before ↦
+            let same : c.loop-first.first - 1 ≡ i = omega arith in
+            subst (λ k. is_fault_node (slice_get c.args.self.now k) ≡ true) same (asked g at.After-is_fault ∙ c.if-is_fault.true)
+        | inr behind ↦ c.loop-first.invariant.each i behind to
+      ];
+    }
+
+pub returns-else-is_fault : goal.returns-else-is_fault
+returns-else-is_fault g c =
+    record {
+      above = c.loop-first.invariant.above;
+      below = c.loop-first.invariant.below;
+      each = c.loop-first.invariant.each;
+      stops = λ some. asked g (goal.at.returns-else-is_fault g c).After-is_fault ∙ c.if-is_fault.false;
+    }
