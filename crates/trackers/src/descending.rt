@@ -11,6 +11,9 @@ pub(crate) const FEW: usize = 8;
 // The same for each of four lists that are added up.
 const FOURTH: usize = 4;
 
+// As many stand in a list with no allocation.
+const INLINE: usize = 4;
+
 /// Puts the exclusive or of two short descending lists in place of the first, which is emptied by an error.
 pub(crate) fn add_few<A: Allocator + Copy>(
     items: &mut SmallVec<u32, 4, A>,
@@ -23,55 +26,41 @@ pub(crate) fn add_few<A: Allocator + Copy>(
 {
     let mut sum = [0; 2 * FEW];
     let len = merge_few(items.as_slice(), more, &mut sum);
-    let put = put_few(items, &sum, len);
-    if put.is_err() {
-        empty(items);
+    if len <= INLINE && !items.spilled() {
+        *items = first_of(*items.allocator(), &sum, len);
+        return Ok(());
     }
-    put
+    replace(items, &sum[..len])
 }
 
-// Puts the first `len` of these in place of what a list holds. They are written over what is there, since each removal
-// or push would wait for the length that the one before it left.
-#[inline]
-fn put_few<A: Allocator + Copy>(
+// The first `len` of these, which fit with no allocation. It is asked how many, so that the places which stay empty are
+// known where they are filled with blanks: else that is a call.
+#[inline(always)]
+fn first_of<A: Allocator + Copy>(alloc: A, sum: &[u32; 16], len: usize) -> SmallVec<u32, 4, A>
+    requires { len ≤ 4 }
+    ensures { result.items ≡ take len sum.now }
+{
+    let four = [sum[0], sum[1], sum[2], sum[3]];
+    match len {
+        0 => SmallVec::new(alloc),
+        1 => SmallVec::from_buf_and_len(alloc, four, 1),
+        2 => SmallVec::from_buf_and_len(alloc, four, 2),
+        3 => SmallVec::from_buf_and_len(alloc, four, 3),
+        _ => SmallVec::from_buf(alloc, four),
+    }
+}
+
+// Puts these in place of what a list holds, which is emptied by an error.
+#[inline(never)]
+fn replace<A: Allocator + Copy>(
     items: &mut SmallVec<u32, 4, A>,
-    sum: &[u32; 16],
-    len: usize,
+    targets: &[u32],
 ) -> Result<(), AllocError>
-    requires { len ≤ 16 }
-    ensures { OnOk result (items.new.items ≡ take len sum.now) }
+    ensures ok { OnOk result (items.new.items ≡ targets.now) }
+    ensures err { OnErr result (items.new.items ≡ []) }
 {
-    let kept = write_over(items.as_mut_slice(), sum, len);
-    shorten(items, kept);
-    push_few(items, &sum[kept..len])
-}
-
-// Writes the first `len` of these, as far as there are places, and answers how many. A remainder taken at each keeps
-// the loop from being made a call that copies.
-#[inline(always)]
-fn write_over(places: &mut [u32], sum: &[u32; 16], len: usize) -> usize
-    requires { len ≤ 16 }
-    ensures within { result ≤ len }
-    ensures fits { result ≤ length places.old }
-    ensures len { length places.new ≡ length places.old }
-    ensures written { take result places.new ≡ take result sum.now }
-{
-    let mut kept = 0;
-    while kept < places.len() && kept < len {
-        places[kept] = sum[kept % 16];
-        kept += 1;
-    }
-    kept
-}
-
-// Takes out all behind the first `kept`.
-#[inline(always)]
-fn shorten<A: Allocator + Copy>(items: &mut SmallVec<u32, 4, A>, kept: usize)
-    ensures { items.new.items ≡ take kept items.old.items }
-{
-    if items.len() > kept {
-        items.truncate(kept);
-    }
+    items.clear();
+    items.extend_from_slice(targets)
 }
 
 /// Takes all targets out, one by one: they are few, and each takes less than a call.
@@ -80,20 +69,6 @@ pub(crate) fn empty<A: Allocator + Copy>(items: &mut SmallVec<u32, 4, A>)
     ensures { items.new.items ≡ [] }
 {
     while items.pop().is_some() {}
-}
-
-// Appends these, one by one.
-#[inline]
-fn push_few<A: Allocator + Copy>(
-    items: &mut SmallVec<u32, 4, A>,
-    targets: &[u32],
-) -> Result<(), AllocError>
-    ensures { OnOk result (items.new.items ≡ items.old.items ++ targets.now) }
-{
-    for target in targets {
-        items.push(*target)?;
-    }
-    Ok(())
 }
 
 /// Takes a target out of a descending list, or puts it in at its place. Most come behind all that are there.
@@ -195,7 +170,7 @@ pub(crate) fn merge<A: Allocator + Copy>(
 
 /// Puts the exclusive or of two descending lists in place of the first, which stays as it was after an error. What the
 /// spare list held is lost.
-#[inline(always)]
+#[inline(never)]
 pub(crate) fn add_many<'a, A: Allocator + Copy>(
     items: &mut SmallVec<u32, 4, &'a A>,
     more: &[u32],

@@ -59,7 +59,7 @@ impl<'a, A: Allocator + Copy> SparseSet<'a, A> {
         ensures spare { length spare.new ≡ length spare.old }
     {
         let more = other.items.as_slice();
-        if self.items.len() <= FEW && more.len() <= FEW {
+        if self.items.as_slice().len() <= FEW && more.len() <= FEW {
             return add_few(&mut self.items, more);
         }
         add_many(&mut self.items, more, &mut spare.items)
