@@ -1,11 +1,11 @@
 -- Sets of targets as descending lists.
-use Rattle.std.proofs.Common.{◌≡◌, ℕ, zero, suc, ◌+◌, ◌-◌, ◌<◌, ◌≤◌, ◌==◌, nat_lt, Bool, true, false, not, List, [], ◌∷◌, ◌++◌, length, map, get_or, set, take, drop, inl, inr, Result, Ok, Err, OnOk, OnErr, refl, ap, ap₂, subst, sym, ◌∙◌, arith, append-nil}
+use Rattle.std.proofs.Common.{◌≡◌, ℕ, zero, suc, ◌+◌, ◌-◌, ◌<◌, ◌≤◌, ◌==◌, nat_lt, Bool, true, false, not, List, [], ◌∷◌, ◌++◌, length, map, get_or, set, drop, inl, inr, Result, Ok, Err, OnOk, OnErr, refl, ap, ap₂, subst, sym, ◌∙◌, arith, append-nil}
 use Rattle.std.specs.Prelude.{◌⊎◌, filter, reverse, replicate, insert, remove, if◌then◌else◌}
-use Rattle.std.specs.List.{range_with_len, refill, slice_range}
+use Rattle.std.specs.List.{range_with_len}
 use Rattle.std.proofs.Math.Nat.{suc_inj}
 use Rattle.std.proofs.lemmas.Bool.{eqb-true, ltb-true, ltb-false, lt-ltb, le-ltb, cases_eq, eq-eqb, ne_eqb}
 use Rattle.trackers.proofs.RangeLemmas.{filter_range_agree, filter_range_taken, filter_range_left, set-map-range}
-use Rattle.std.proofs.lemmas.List.{drop_all, drop_more, reverse-append, take-take, take-append-le, take-append-drop, drop-take}
+use Rattle.std.proofs.lemmas.List.{drop_all, drop_more, reverse-append}
 use Rattle.pauli_word.specs.Parity.{exclusive_or}
 use Rattle.pauli_word.proofs.Parities.{exclusive_or-false, exclusive_or_assoc, exclusive_or_left_comm}
 use Rattle.step_model.specs.Targets.{is_listed}
@@ -318,16 +318,3 @@ summed m n mine other p q is_p is_q long descends =
       row = λ new is. ap (row_of_set m) is ∙ (row_of_xor_sets m mine other ∙ ap₂ xor_rows is_p (ap (λ n. row_of_set n other) counted ∙ is_q));
       below = λ h. DescendsBelow-xor_sets m mine other h (subst (λ n. DescendsBelow n other) (sym counted) descends);
     }
-
--- a beginning of what is written over a list of as many
-pub kept_written : (kept n : ℕ) (old written : List ℕ) → kept ≤ n → kept ≤ length written → take kept (refill n old written) ≡ take kept written
-kept_written kept n old written fits within =
-    take-take kept n (written ++ drop (length written) old) fits ∙ take-append-le kept written (drop (length written) old) within
-
--- a beginning, and what is behind it up to a place
-pub up_to : (xs : List ℕ) (kept n : ℕ) → kept ≤ n → take kept xs ++ slice_range xs kept n ≡ take n xs
-up_to xs kept n within =
-    let m = n - kept in
-    let whole : kept + m ≡ n = omega (arith, within) in
-    ap₂ (λ front back. front ++ back) (sym (take-take kept (kept + m) xs (omega arith))) (sym (drop-take kept m xs))
-    ∙ (take-append-drop kept (take (kept + m) xs) ∙ ap (λ k. take k xs) whole)

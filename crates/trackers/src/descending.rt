@@ -1,5 +1,5 @@
 //! Descending lists: changed where they stand, merged, and listed in ascending order.
-ghost use Rattle.std.specs.Prelude.{◌≡◌, ◌<◌, ◌≤◌, ◌+◌, ◌-◌, ◌∷◌, ◌++◌, [], ℕ, take, true, insert, length, remove, reverse, slice_index, IfOk, OnOk, OnErr};
+ghost use Rattle.std.specs.Prelude.{◌≡◌, ◌<◌, ◌≤◌, ◌+◌, ◌-◌, ◌∷◌, ◌++◌, [], ℕ, take, true, insert, length, remove, reverse, slice_index, IfOk, IfSome, OnOk, OnErr};
 ghost use Rattle.trackers.specs.private.Sets.{xor_sets, DescendsBelow};
 
 use smallvec::SmallVec;
@@ -8,70 +8,55 @@ use std::alloc::{AllocError, Allocator};
 /// A list of at most this many is short.
 pub(crate) const FEW: usize = 8;
 
-// The same for each of four lists that are added up.
-const FOURTH: usize = 4;
+// As many stand in a list with no allocation.
+const INLINE: usize = 4;
 
-/// Puts the exclusive or of two short descending lists in place of the first, which is emptied by an error.
-pub(crate) fn add_few<A: Allocator + Copy>(
-    items: &mut SmallVec<u32, 4, A>,
-    more: &[u32],
-) -> Result<(), AllocError>
-    requires few { length items.old.items ≤ 8 }
-    requires few_more { length more.now ≤ 8 }
-    ensures ok { OnOk result (items.new.items ≡ xor_sets items.old.items more.now) }
-    ensures err { OnErr result (items.new.items ≡ []) }
-{
-    let mut sum = [0; 2 * FEW];
-    let len = merge_few(items.as_slice(), more, &mut sum);
-    let put = put_few(items, &sum, len);
-    if put.is_err() {
-        empty(items);
-    }
-    put
-}
-
-// Puts the first `len` of these in place of what a list holds. They are written over what is there, since each removal
-// or push would wait for the length that the one before it left.
+/// Puts the first `len` of these in place of what a list holds, which is emptied by an error.
 #[inline]
-fn put_few<A: Allocator + Copy>(
+pub(crate) fn put_few<A: Allocator + Copy>(
     items: &mut SmallVec<u32, 4, A>,
     sum: &[u32; 16],
     len: usize,
 ) -> Result<(), AllocError>
     requires { len ≤ 16 }
-    ensures { OnOk result (items.new.items ≡ take len sum.now) }
+    ensures ok { OnOk result (items.new.items ≡ take len sum.now) }
+    ensures err { OnErr result (items.new.items ≡ []) }
 {
-    let kept = write_over(items.as_mut_slice(), sum, len);
-    shorten(items, kept);
-    push_few(items, &sum[kept..len])
+    if len <= INLINE && !items.spilled() {
+        *items = first_of(*items.allocator(), sum, len);
+        return Ok(());
+    }
+    replace(items, &sum[..len])
 }
 
-// Writes the first `len` of these, as far as there are places, and answers how many. A remainder taken at each keeps
-// the loop from being made a call that copies.
+// The first `len` of these, which fit with no allocation. It is asked how many, so that the places which stay empty are
+// known where they are filled with blanks: else that is a call.
 #[inline(always)]
-fn write_over(places: &mut [u32], sum: &[u32; 16], len: usize) -> usize
-    requires { len ≤ 16 }
-    ensures within { result ≤ len }
-    ensures fits { result ≤ length places.old }
-    ensures len { length places.new ≡ length places.old }
-    ensures written { take result places.new ≡ take result sum.now }
+fn first_of<A: Allocator + Copy>(alloc: A, sum: &[u32; 16], len: usize) -> SmallVec<u32, 4, A>
+    requires { len ≤ 4 }
+    ensures { result.items ≡ take len sum.now }
 {
-    let mut kept = 0;
-    while kept < places.len() && kept < len {
-        places[kept] = sum[kept % 16];
-        kept += 1;
+    let four = [sum[0], sum[1], sum[2], sum[3]];
+    match len {
+        0 => SmallVec::new(alloc),
+        1 => SmallVec::from_buf_and_len(alloc, four, 1),
+        2 => SmallVec::from_buf_and_len(alloc, four, 2),
+        3 => SmallVec::from_buf_and_len(alloc, four, 3),
+        _ => SmallVec::from_buf(alloc, four),
     }
-    kept
 }
 
-// Takes out all behind the first `kept`.
-#[inline(always)]
-fn shorten<A: Allocator + Copy>(items: &mut SmallVec<u32, 4, A>, kept: usize)
-    ensures { items.new.items ≡ take kept items.old.items }
+// Puts these in place of what a list holds, which is emptied by an error.
+#[inline(never)]
+fn replace<A: Allocator + Copy>(
+    items: &mut SmallVec<u32, 4, A>,
+    targets: &[u32],
+) -> Result<(), AllocError>
+    ensures ok { OnOk result (items.new.items ≡ targets.now) }
+    ensures err { OnErr result (items.new.items ≡ []) }
 {
-    if items.len() > kept {
-        items.truncate(kept);
-    }
+    items.clear();
+    items.extend_from_slice(targets)
 }
 
 /// Takes all targets out, one by one: they are few, and each takes less than a call.
@@ -80,20 +65,6 @@ pub(crate) fn empty<A: Allocator + Copy>(items: &mut SmallVec<u32, 4, A>)
     ensures { items.new.items ≡ [] }
 {
     while items.pop().is_some() {}
-}
-
-// Appends these, one by one.
-#[inline]
-fn push_few<A: Allocator + Copy>(
-    items: &mut SmallVec<u32, 4, A>,
-    targets: &[u32],
-) -> Result<(), AllocError>
-    ensures { OnOk result (items.new.items ≡ items.old.items ++ targets.now) }
-{
-    for target in targets {
-        items.push(*target)?;
-    }
-    Ok(())
 }
 
 /// Takes a target out of a descending list, or puts it in at its place. Most come behind all that are there.
@@ -195,7 +166,7 @@ pub(crate) fn merge<A: Allocator + Copy>(
 
 /// Puts the exclusive or of two descending lists in place of the first, which stays as it was after an error. What the
 /// spare list held is lost.
-#[inline(always)]
+#[inline(never)]
 pub(crate) fn add_many<'a, A: Allocator + Copy>(
     items: &mut SmallVec<u32, 4, &'a A>,
     more: &[u32],
@@ -224,8 +195,21 @@ pub(crate) fn add_many<'a, A: Allocator + Copy>(
     }
 }
 
-// Puts the exclusive or of two short descending lists at the start of `sum`, and answers how long it is. Which of two
-// is the greater is hard to predict, so no branch is taken on it.
+/// Puts the exclusive or of two descending lists at the start of `sum`, and answers how long it is, where both are
+/// short.
+#[inline(always)]
+pub(crate) fn sum_few(first: &[u32], second: &[u32], sum: &mut [u32; 16]) -> Option<usize>
+    ensures within { IfSome result (λ len. len ≤ 16) }
+    ensures sum { IfSome result (λ len. take len sum.new ≡ xor_sets first.now second.now) }
+{
+    if first.len() > FEW || second.len() > FEW {
+        return None;
+    }
+    Some(merge_few(first, second, sum))
+}
+
+// The same for two that are short. Which of two is the greater is hard to predict, so no branch is taken on it.
+#[inline]
 fn merge_few(first: &[u32], second: &[u32], sum: &mut [u32; 16]) -> usize
     requires first { length first.now ≤ 8 }
     requires second { length second.now ≤ 8 }
@@ -282,16 +266,17 @@ pub(crate) fn list_sum<B: Allocator + Copy>(
         list_ascending(first, into)?;
         return Ok(true);
     }
-    if first.len() > FEW || second.len() > FEW {
-        return Ok(false);
-    }
     let mut sum = [0; 2 * FEW];
-    let len = merge_few(first, second, &mut sum);
-    list_ascending(&sum[..len], into)?;
-    Ok(true)
+    match sum_few(first, second, &mut sum) {
+        Some(len) => {
+            list_ascending(&sum[..len], into)?;
+            Ok(true)
+        }
+        None => Ok(false),
+    }
 }
 
-/// The same for four descending lists, each still shorter.
+/// The same for four descending lists, added up two by two.
 pub(crate) fn list_sum_of_four<B: Allocator + Copy>(
     first: &[u32],
     second: &[u32],
@@ -303,17 +288,15 @@ pub(crate) fn list_sum_of_four<B: Allocator + Copy>(
         → into.new.items
         ≡ reverse (xor_sets (xor_sets first.now second.now) (xor_sets third.now fourth.now))) }
 {
-    if first.len() > FOURTH || second.len() > FOURTH {
-        return Ok(false);
-    }
-    if third.len() > FOURTH || fourth.len() > FOURTH {
-        return Ok(false);
-    }
     let mut front = [0; 2 * FEW];
-    let front_len = merge_few(first, second, &mut front);
     let mut back = [0; 2 * FEW];
-    let back_len = merge_few(third, fourth, &mut back);
-    list_sum(&front[..front_len], &back[..back_len], into)
+    match (
+        sum_few(first, second, &mut front),
+        sum_few(third, fourth, &mut back),
+    ) {
+        (Some(front_len), Some(back_len)) => list_sum(&front[..front_len], &back[..back_len], into),
+        _ => Ok(false),
+    }
 }
 
 pub(crate) fn list_ascending<B: Allocator + Copy>(

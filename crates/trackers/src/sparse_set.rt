@@ -3,7 +3,7 @@ ghost use Rattle.std.specs.Prelude.{◌≡◌, false, length, replicate, OnOk};
 ghost use Rattle.bit_rows.specs.Rows.{xor_rows};
 
 use crate::descending::{
-    FEW, add_few, add_many, empty, list_ascending, list_sum, list_sum_of_four, toggle_in,
+    FEW, add_many, empty, list_ascending, list_sum, list_sum_of_four, put_few, sum_few, toggle_in,
 };
 use crate::target_set::TargetSet;
 use smallvec::SmallVec;
@@ -59,10 +59,11 @@ impl<'a, A: Allocator + Copy> SparseSet<'a, A> {
         ensures spare { length spare.new ≡ length spare.old }
     {
         let more = other.items.as_slice();
-        if self.items.len() <= FEW && more.len() <= FEW {
-            return add_few(&mut self.items, more);
+        let mut sum = [0; 2 * FEW];
+        match sum_few(self.items.as_slice(), more, &mut sum) {
+            Some(len) => put_few(&mut self.items, &sum, len),
+            None => add_many(&mut self.items, more, &mut spare.items),
         }
-        add_many(&mut self.items, more, &mut spare.items)
     }
 }
 
