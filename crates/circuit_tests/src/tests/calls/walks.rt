@@ -186,6 +186,49 @@ fn rows_of_the_table(rt: HostRuntime) {
     assert!(rt; ROWS.lines().count() == 12);
 }
 
+/// A row a circuit: its lines; a bound, and the place where a walk from the end is that passes over faults to that bound; and
+/// the step after this place.
+const PASSES: &str = "\
+# over the turns of a block, to the gate | X 0 | X_ERROR(1) 0 | REPEAT 2 { | X_ERROR(1) 1 2 | } | X_ERROR(1) 3 = 01 = F00
+# to the bound | X 0 | X_ERROR(1) 0 | REPEAT 2 { | X_ERROR(1) 1 2 | } | X_ERROR(1) 3 = 44 = F31
+X_ERROR(1) 0 | REPEAT 2 { | X_ERROR(1) 0 | } = 00 = F00
+# the flip of a record is no fault of its own | REPEAT 3 { | M(0.5) 0 | X_ERROR(1) 0 | } = 05 = F51
+X_ERROR(1) 0 | X 0 = 02 = -
+X_ERROR(1) 0 1 2 = 33 = -
+";
+
+// Whether a walk from the end passes over faults to this place, and the step after it is this one.
+fn passes_to(program: &Program<'_, Global>, places: &[u8], word: &[u8]) -> bool {
+    let (Some(from), Some(place)) = (digit(places, 0), digit(places, 1)) else {
+        return false;
+    };
+    let mut walk = Walk::end(program);
+    if walk.place() < from as usize {
+        return false;
+    }
+    walk.pass_faults_back(from as usize);
+    walk.place() == place as usize && walk.next_step() == step_of(word)
+}
+
+fn pass_holds(alloc: Global, row: &str) -> Result<bool, Fault> {
+    match parts_of(row) {
+        Some((circuit, places, word)) => {
+            let text = text_of(alloc, circuit)?;
+            let program = read_program(alloc, text.as_slice())?;
+            Ok(passes_to(&program, places.as_bytes(), word.as_bytes()))
+        }
+        None => Ok(false),
+    }
+}
+
+#[test]
+fn passes_over_faults(rt: HostRuntime) {
+    for row in PASSES.lines() {
+        assert!(rt; matches!(pass_holds(rt.alloc(), row), Ok(true)), "{row}");
+    }
+    assert!(rt; PASSES.lines().count() == 6);
+}
+
 /// A measurement in three blocks of two turns inside 29 of one.
 fn nested(alloc: Global) -> Result<String, AllocError> {
     let mut text = String::new(alloc);
