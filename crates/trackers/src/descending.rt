@@ -5,14 +5,12 @@ ghost use Rattle.trackers.specs.private.Sets.{xor_sets, DescendsBelow};
 use smallvec::SmallVec;
 use std::alloc::{AllocError, Allocator};
 
-/// A list of at most this many is short.
-pub(crate) const FEW: usize = 8;
+/// Two lists are short where they have at most this many together.
+pub(crate) const FEW: usize = 16;
 
-// As many stand in a list with no allocation.
-const INLINE: usize = 4;
-
-/// Puts the first `len` of these in place of what a list holds, which is emptied by an error.
-#[inline]
+/// Puts the first `len` of these in place of what a list holds, which is emptied by an error. It is asked how many, so
+/// that the places which stay empty are known where they are filled with blanks: else that is a call.
+#[inline(always)]
 pub(crate) fn put_few<A: Allocator + Copy>(
     items: &mut SmallVec<u32, 4, A>,
     sum: &[u32; 16],
@@ -22,28 +20,20 @@ pub(crate) fn put_few<A: Allocator + Copy>(
     ensures ok { OnOk result (items.new.items ≡ take len sum.now) }
     ensures err { OnErr result (items.new.items ≡ []) }
 {
-    if len <= INLINE && !items.spilled() {
-        *items = first_of(*items.allocator(), sum, len);
-        return Ok(());
+    if items.spilled() {
+        return replace(items, &sum[..len]);
     }
-    replace(items, &sum[..len])
-}
-
-// The first `len` of these, which fit with no allocation. It is asked how many, so that the places which stay empty are
-// known where they are filled with blanks: else that is a call.
-#[inline(always)]
-fn first_of<A: Allocator + Copy>(alloc: A, sum: &[u32; 16], len: usize) -> SmallVec<u32, 4, A>
-    requires { len ≤ 4 }
-    ensures { result.items ≡ take len sum.now }
-{
+    let alloc = *items.allocator();
     let four = [sum[0], sum[1], sum[2], sum[3]];
-    match len {
+    *items = match len {
         0 => SmallVec::new(alloc),
         1 => SmallVec::from_buf_and_len(alloc, four, 1),
         2 => SmallVec::from_buf_and_len(alloc, four, 2),
         3 => SmallVec::from_buf_and_len(alloc, four, 3),
-        _ => SmallVec::from_buf(alloc, four),
-    }
+        4 => SmallVec::from_buf(alloc, four),
+        _ => return replace(items, &sum[..len]),
+    };
+    Ok(())
 }
 
 // Puts these in place of what a list holds, which is emptied by an error.
@@ -59,12 +49,16 @@ fn replace<A: Allocator + Copy>(
     items.extend_from_slice(targets)
 }
 
-/// Takes all targets out, one by one: they are few, and each takes less than a call.
+/// Takes all targets out, and keeps an allocation. To make an empty list takes less than a call.
 #[inline]
 pub(crate) fn empty<A: Allocator + Copy>(items: &mut SmallVec<u32, 4, A>)
     ensures { items.new.items ≡ [] }
 {
-    while items.pop().is_some() {}
+    if items.spilled() {
+        items.clear();
+    } else {
+        *items = SmallVec::new(*items.allocator());
+    }
 }
 
 /// Takes a target out of a descending list, or puts it in at its place. Most come behind all that are there.
@@ -202,7 +196,7 @@ pub(crate) fn sum_few(first: &[u32], second: &[u32], sum: &mut [u32; 16]) -> Opt
     ensures within { IfSome result (λ len. len ≤ 16) }
     ensures sum { IfSome result (λ len. take len sum.new ≡ xor_sets first.now second.now) }
 {
-    if first.len() > FEW || second.len() > FEW {
+    if first.len() + second.len() > FEW {
         return None;
     }
     Some(merge_few(first, second, sum))
@@ -211,8 +205,7 @@ pub(crate) fn sum_few(first: &[u32], second: &[u32], sum: &mut [u32; 16]) -> Opt
 // The same for two that are short. Which of two is the greater is hard to predict, so no branch is taken on it.
 #[inline]
 fn merge_few(first: &[u32], second: &[u32], sum: &mut [u32; 16]) -> usize
-    requires first { length first.now ≤ 8 }
-    requires second { length second.now ≤ 8 }
+    requires { length first.now + length second.now ≤ 16 }
     ensures within { result ≤ 16 }
     ensures sum { take result sum.new ≡ xor_sets first.now second.now }
 {
@@ -266,7 +259,7 @@ pub(crate) fn list_sum<B: Allocator + Copy>(
         list_ascending(first, into)?;
         return Ok(true);
     }
-    let mut sum = [0; 2 * FEW];
+    let mut sum = [0; FEW];
     match sum_few(first, second, &mut sum) {
         Some(len) => {
             list_ascending(&sum[..len], into)?;
@@ -288,8 +281,8 @@ pub(crate) fn list_sum_of_four<B: Allocator + Copy>(
         → into.new.items
         ≡ reverse (xor_sets (xor_sets first.now second.now) (xor_sets third.now fourth.now))) }
 {
-    let mut front = [0; 2 * FEW];
-    let mut back = [0; 2 * FEW];
+    let mut front = [0; FEW];
+    let mut back = [0; FEW];
     match (
         sum_few(first, second, &mut front),
         sum_few(third, fourth, &mut back),

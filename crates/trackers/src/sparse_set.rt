@@ -59,7 +59,7 @@ impl<'a, A: Allocator + Copy> SparseSet<'a, A> {
         ensures spare { length spare.new ≡ length spare.old }
     {
         let more = other.items.as_slice();
-        let mut sum = [0; 2 * FEW];
+        let mut sum = [0; FEW];
         match sum_few(self.items.as_slice(), more, &mut sum) {
             Some(len) => put_few(&mut self.items, &sum, len),
             None => add_many(&mut self.items, more, &mut spare.items),
