@@ -1,9 +1,12 @@
 mod AnswerLemmas
 mod ApartLemmas
+mod ChangeLemmas
 pub mod Judging
 mod HeldLines
 mod LinkLemmas
+mod ListedLemmas
 mod NumberedLemmas
+mod OrderLemmas
 pub mod PassLines
 pub mod PassPlaces
 pub mod PassRecords
