@@ -79,7 +79,7 @@ toggled_apart m r rows old targets xs toggled within is parities =
         ∙ sym (toggled_each_at targets k (row_of_set m xs) (omega (arith, low, length-row_of_set m xs))))))
 
 -- ---- two lists merged, where equal targets cancel
-listed_pushed : (xs : List ℕ) (x t : ℕ) → is_listed (xs ++ x ∷ []) t ≡ exclusive_or (x == t) (is_listed xs t)
+pub listed_pushed : (xs : List ℕ) (x t : ℕ) → is_listed (xs ++ x ∷ []) t ≡ exclusive_or (x == t) (is_listed xs t)
 listed_pushed [] x t = refl
 listed_pushed (y ∷ xs) x t = ap (exclusive_or (y == t)) (listed_pushed xs x t) ∙ exclusive_or_left_comm (y == t) (x == t) (is_listed xs t)
 

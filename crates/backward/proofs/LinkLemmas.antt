@@ -1,24 +1,20 @@
 -- Lists of targets as links of one list of links: what a link more leaves, and targets put in front.
-use Rattle.std.proofs.Common.{◌≡◌, ℕ, zero, suc, ◌+◌, ◌-◌, ◌<◌, ◌≤◌, Bool, true, false, not, ◌==◌, List, [], ◌∷◌, ◌++◌, length, map, drop, get_or, set, inl, inr, refl, ap, ap₂, subst, sym, ◌∙◌, arith}
-use Rattle.std.specs.Prelude.{All, cond, replicate}
-use Rattle.std.specs.List.{range_with_len, sum_by}
-use Rattle.std.specs.List.Sorted.{IsPermutation}
+use Rattle.std.proofs.Common.{◌≡◌, ℕ, zero, suc, ◌+◌, ◌-◌, ◌<◌, ◌≤◌, Bool, false, List, [], ◌∷◌, ◌++◌, length, get_or, set, inl, inr, refl, ap, ap₂, subst, sym, ◌∙◌, arith}
+use Rattle.std.specs.Prelude.{All, replicate}
 use Rattle.std.proofs.Math.ListN.{get_or-append}
 use Rattle.std.proofs.Math.Seq.{get_or-append_seam}
 use Rattle.std.proofs.lemmas.List.{append_assoc, ext_get_or, get_or_default, get_or-map, get_or-replicate, length-append, length-replicate, length-map, map-set}
 use Rattle.std.proofs.lemmas.List.Elements.{All-set}
 use Rattle.std.proofs.lemmas.List.FromFn.{fill_by_all}
-use Rattle.std.proofs.lemmas.List.Sorted.{sum_by-IsPermutation}
-use Rattle.std.proofs.lemmas.List.Sums.{sum_by-append}
 use Rattle.std.proofs.lemmas.Bool.{cases_lt}
 use Rattle.pauli_word.specs.Parity.{exclusive_or}
 use Rattle.pauli_word.proofs.Parities.{exclusive_or-false}
 use Rattle.step_model.specs.Targets.{is_listed}
 use Rattle.backward.specs.declared.record_lists.Link.{Link}
 use Rattle.backward.specs.private.Collapses.{toggled_each}
-use Rattle.backward.specs.private.Links.{no_link, chain, list_at, rows_at, LeadBack, AreLists, Falls, IsGrown, IsPutAt, put_before}
-use Rattle.trackers.specs.private.Sets.{DescendsBelow}
+use Rattle.backward.specs.private.Links.{no_link, chain, list_at, rows_at, LeadBack, AreLists, IsGrown, IsPutAt, put_before}
 use Rattle.trackers.specs.TargetSets.{members, row_of_set}
+use Rattle.backward.proofs.OrderLemmas.{map_agree_on}
 use Rattle.backward.proofs.PassSets.{length-toggled_each, toggled_each_at}
 use Rattle.trackers.proofs.RangeLemmas.{listed_in_range}
 use Rattle.trackers.proofs.SetLemmas.{row_of_no_set, row_of_more, length-row_of_set, get_or-row_of_set}
@@ -158,23 +154,7 @@ below_at m rec place links places rows lists is low read =
     let within : rec < length places = omega (arith, low, rows_counted m links places rows is) in
     subst (λ k. All (λ t. t < m) (list_at links k)) (sym read) (lists.below rec place within)
 
-pub falls_below : (m : ℕ) (list : List ℕ) → Falls list → All (λ t. t < m) list → DescendsBelow m list
-falls_below m [] falls below = tt
-falls_below m (t ∷ ts) falls below = (below 0 t (omega arith), falls)
-
--- the last target, or none
-pub falls_end : (list : List ℕ) (left : ℕ) → length list ≤ left + 1 → Falls (drop left list)
-falls_end [] zero h = tt
-falls_end [] (suc left) h = tt
-falls_end (t ∷ []) zero h = tt
-falls_end (t ∷ u ∷ list) zero h = absurd (omega (arith, h))
-falls_end (t ∷ list) (suc left) h = falls_end list left (omega (arith, h))
-
 -- ---- the lists of all records
-map_agree_on : {X Y : Type 0} (f g : X → Y) (xs : List X) → All (λ x. f x ≡ g x) xs → map f xs ≡ map g xs
-map_agree_on f g [] same = refl
-map_agree_on f g (x ∷ xs) same = ap₂ (λ y ys. y ∷ ys) (same 0 x (omega arith)) (map_agree_on f g xs (λ k d lt. same (suc k) d (omega (arith, lt))))
-
 below_put : (m : ℕ) (targets list : List ℕ) → All (λ t. t < m) targets → All (λ t. t < m) list → All (λ t. t < m) (put_before targets list)
 below_put m [] list low below = below
 below_put m (t ∷ ts) list low below =
@@ -271,42 +251,6 @@ put_members row list none is blank =
     (λ k lt.
     let within : k < length row = omega (arith, lt, length-row_of_set (length row) (members row)) in
     get_or-row_of_set (length row) (members row) k within ∙ listed_in_range (λ t. get_or row t false) k 0 (length row) (omega arith) (omega (arith, within))))
-
--- ---- the order of a list doesn't matter
-abbrev odd : ℕ → Bool
-odd zero = false
-odd (suc n) = not (odd n)
-
-abbrev once : ℕ → ℕ → ℕ
-once t u = cond (u == t) 1 0
-
-odd_more : (b : Bool) (n : ℕ) → exclusive_or b (odd n) ≡ odd (cond b 1 0 + n)
-odd_more true n = let e : suc n ≡ 1 + n = omega arith in turned (odd n) ∙ ap odd e
-  where
-    turned : (b : Bool) → exclusive_or true b ≡ not b
-    turned true = refl
-    turned false = refl
-odd_more false n = let e : n ≡ 0 + n = omega arith in kept (odd n) ∙ ap odd e
-  where
-    kept : (b : Bool) → exclusive_or false b ≡ b
-    kept true = refl
-    kept false = refl
-
-listed_by_count : (t : ℕ) (xs : List ℕ) → is_listed xs t ≡ odd (sum_by (once t) xs)
-listed_by_count t [] = refl
-listed_by_count t (x ∷ xs) =
-    let first : 0 + once t x ≡ once t x = omega arith in
-    ap (exclusive_or (x == t)) (listed_by_count t xs)
-    ∙ odd_more (x == t) (sum_by (once t) xs)
-    ∙ ap (λ n. odd (n + sum_by (once t) xs)) (sym first)
-    ∙ ap odd (sym (sum_by-append (once t) (x ∷ []) xs))
-
-pub row_of_permutation : (m : ℕ) (xs ys : List ℕ) → IsPermutation xs ys → row_of_set m ys ≡ row_of_set m xs
-row_of_permutation m xs ys p =
-    map_agree_on (is_listed ys) (is_listed xs) (range_with_len 0 m) (λ k d lt. same (get_or (range_with_len 0 m) k d))
-  where
-    same : (t : ℕ) → is_listed ys t ≡ is_listed xs t
-    same t = listed_by_count t ys ∙ (ap odd (sum_by-IsPermutation (once t) xs ys p) ∙ sym (listed_by_count t xs))
 
 -- all rows are of the number of targets, so a number that is the length of each stays it
 pub rows_stay_long : (m n : ℕ) (links new_links : List Link) (places new_places : List ℕ) (rows : List (List Bool)) → rows_at m links places ≡ rows → length new_places ≡ length places → All (λ set. length set ≡ n) rows → All (λ set. length set ≡ n) (rows_at m new_links new_places)

@@ -1,5 +1,5 @@
 -- The targets that list each record, gone back over feedback, and found from the lists of all targets.
-use Rattle.std.proofs.Common.{◌≡◌, ◌≢◌, ℕ, ◌+◌, ◌<◌, ◌==◌, nat_lt, Bool, true, false, not, ◌&&◌, List, [], ◌∷◌, map, length, get_or, inl, inr, refl, ap, ap₂, sym, ◌∙◌, arith, length-set, get_or-set_same, get_or-set_other}
+use Rattle.std.proofs.Common.{◌≡◌, ◌≢◌, ℕ, ◌+◌, ◌<◌, ◌==◌, Bool, true, false, not, ◌&&◌, List, [], ◌∷◌, map, length, get_or, inl, inr, refl, ap, ap₂, sym, ◌∙◌, arith, length-set, get_or-set_same, get_or-set_other}
 use Rattle.std.specs.Prelude.{All, replicate, filter, cond}
 use Rattle.std.specs.List.{range_with_len}
 use Rattle.std.proofs.lemmas.Bool.{cases_eq, cases_lt, eq-eqb, ne_eqb, lt-ltb, le-ltb}
@@ -13,6 +13,7 @@ use Rattle.step_model.specs.Listing.{Listing, ListedStep, Feedback}
 use Rattle.step_model.specs.Targets.{targets_of, target_at, is_listed}
 use Rattle.backward.specs.private.Collapses.{toggled_each}
 use Rattle.trackers.specs.TargetSets.{toggled}
+use Rattle.backward.specs.private.ListedTargets.{listed_below, listing_below}
 use Rattle.backward.specs.private.Passes.{sensitivity_before, listing_set, listing_sets}
 use Rattle.backward.specs.private.RecordSets.{toggled_in, toggled_in_each}
 use Rattle.trackers.proofs.RangeLemmas.{listed_in_range, map_agree, map_range_below}
@@ -91,13 +92,6 @@ listing_set-other program w r s steps ne =
     (range_with_len 0 (target_count program)))
 
 -- ---- the sets from the lists: those of the targets below t have been gone through
-abbrev pub listed_below : Listing → ℕ → ℕ → ℕ → Bool
-listed_below program t r d = nat_lt d t && is_listed (target_at program d) r
-
-abbrev pub listing_below : Listing → ℕ → List (List Bool)
-listing_below program t =
-    map (λ r. map (listed_below program t r) (range_with_len 0 (length (targets_of program)))) (range_with_len 0 program.records)
-
 pub length-toggled_in_each : (t : ℕ) (named : List ℕ) (sets : List (List Bool)) → length (toggled_in_each t named sets) ≡ length sets
 length-toggled_in_each t [] sets = refl
 length-toggled_in_each t (r ∷ named) sets = length-toggled_in_each t named (toggled_in t r sets) ∙ length-set sets r (toggled t (get_or sets r []))

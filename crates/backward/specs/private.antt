@@ -2,6 +2,7 @@ pub mod Answered
 pub mod Apart
 pub mod Collapses
 pub mod Links
+pub mod ListedTargets
 pub mod Numbered
 pub mod Passes
 pub mod Points

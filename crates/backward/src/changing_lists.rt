@@ -1,29 +1,36 @@
 //! For each record the targets that list it, while feedback changes the set of one.
 ghost use Rattle.std.specs.Prelude.{◌≡◌, ◌<◌, ◌≤◌, ◌^◌, ℕ, [], None, Some, length, slice_index_or, slice_set, take, All, IfOk, OnOk};
-ghost use Rattle.backward.specs.private.Apart.{with_apart, AreToggled, IsApart};
+ghost use Rattle.backward.specs.private.Apart.{toggled_at, with_apart, AreToggled, IsApart};
 ghost use Rattle.backward.specs.private.Collapses.{toggled_each};
 ghost use Rattle.backward.specs.private.Passes.{listing_sets};
 ghost use Rattle.trackers.specs.TargetSets.{members};
 
+use crate::ascending::make_ascend;
+use crate::listed_targets::ListedTargets;
 use crate::record_lists::RecordLists;
+use crate::targets::target_count;
 use programs::Program;
 use std::alloc::{AllocError, Allocator};
 use std::marker::Model;
 use std::mem;
 
-/// From this many targets on that feedback toggles at once the record's set is taken out of the lists.
+/// From this many targets on that feedback toggles at once the record's changes are taken out of the lists.
 const MANY: usize = 16;
 
 /// For each record the set of the targets that list it an odd number of times. Feedback alone changes them.
 ///
-/// They are kept as linked lists, and a few targets are toggled there. Where feedback toggles many, the set is taken out
-/// of the lists and kept apart, as targets of which each is in the set where it is listed an odd number of times, and
-/// is put back when another record's is wanted. So it takes a few steps a target.
+/// The program's own are kept as they are, and apart from them for each record the targets that feedback toggled, as
+/// linked lists, from the first on that it toggles. A few targets are toggled there. Where feedback toggles many, the
+/// record's changes are taken out of the lists and kept apart, as targets of which each is changed where it is listed an
+/// odd number of times, and are put back when another record's are wanted. So it takes a few steps a target.
 #[derive(Drop)]
 pub(crate) struct ChangingLists<'s, A: Allocator + Copy> {
+    alloc: &'s A,
     targets: usize,
-    lists: RecordLists<'s, A>,
-    // The record whose set is apart, if one is.
+    listed: ListedTargets<A>,
+    // Of no records until feedback toggles a target.
+    changes: RecordLists<'s, A>,
+    // The record whose changes are apart, if one's are.
     apart: Option<usize>,
     set: Vec<u32, A>,
     // A buffer.
@@ -32,13 +39,13 @@ pub(crate) struct ChangingLists<'s, A: Allocator + Copy> {
 
 impl<'s, A: Allocator + Copy> Model for ChangingLists<'s, A> {
     ghost use Rattle.std.specs.Prelude.{List, Bool};
-    ghost use Rattle.backward.specs.private.Apart.{with_apart, IsApart};
+    ghost use Rattle.backward.specs.private.Apart.{with_apart, with_changes, IsChanged};
 
     ghost Value = { List (List Bool) };
 
-    ghost view = { λ c. with_apart c.targets c.lists c.apart c.set.items };
+    ghost view = { λ c. with_changes c.listed (with_apart c.targets c.changes c.apart c.set.items) };
 
-    ghost invariant = { λ c. IsApart c.targets c.lists c.apart c.set.items };
+    ghost invariant = { λ c. IsChanged c.targets c.listed c.changes c.apart c.set.items };
 }
 
 impl<'s, A: Allocator + Copy> ChangingLists<'s, A> {
@@ -47,10 +54,12 @@ impl<'s, A: Allocator + Copy> ChangingLists<'s, A> {
     pub(crate) fn new<'a>(alloc: &'s A, program: &Program<'a, A>) -> Result<Self, AllocError>
         ensures { IfOk result (λ lists. lists ≡ listing_sets program.now.listing []) }
     {
-        let lists = RecordLists::new(alloc, program)?;
+        let listed = ListedTargets::new(*alloc, program)?;
         Ok(ChangingLists {
-            targets: lists.targets(),
-            lists,
+            alloc,
+            targets: target_count(program),
+            listed,
+            changes: RecordLists::none(alloc),
             apart: None,
             set: Vec::new(*alloc),
             spare: Vec::new(*alloc),
@@ -68,8 +77,15 @@ impl<'s, A: Allocator + Copy> ChangingLists<'s, A> {
         ensures list { OnOk result (into.new.items ≡ members (slice_index_or self.old rec [])) }
         ensures same { OnOk result (self.new ≡ self.old) }
     {
-        put_back(&mut self.lists, &mut self.apart, self.targets, &self.set)?;
-        self.lists.list(rec, into)
+        if self.changes.len() == 0 {
+            into.clear();
+            into.extend_from_slice(self.listed.get(rec))?;
+            return make_ascend(self.alloc, self.targets, into);
+        }
+        put_back(&mut self.changes, &mut self.apart, self.targets, &self.set)?;
+        self.changes.list(rec, &mut self.spare)?;
+        put_toggled(&self.spare, self.listed.get(rec), into)?;
+        make_ascend(self.alloc, self.targets, into)
     }
 
     /// Toggles each of these targets in the set of a record.
@@ -82,21 +98,16 @@ impl<'s, A: Allocator + Copy> ChangingLists<'s, A> {
             ≡ slice_set self.old rec
             (toggled_each targets.now (slice_index_or self.old rec []))) }
     {
-        if targets.len() < MANY {
-            put_back(&mut self.lists, &mut self.apart, self.targets, &self.set)?;
-            return self.lists.toggle_each(rec, targets);
-        }
-        take_out(
-            &mut self.lists,
+        self.changes.open(self.listed.len(), self.targets)?;
+        toggle_apart(
+            &mut self.changes,
             &mut self.apart,
             self.targets,
             &mut self.set,
             &mut self.spare,
             rec,
-        )?;
-        put_toggled(&self.set, targets, &mut self.spare)?;
-        mem::swap(&mut self.set, &mut self.spare);
-        Ok(())
+            targets,
+        )
     }
 
     /// Lets the set of a record go, which isn't asked for any more, nor are those of later records. Takes no memory.
@@ -108,8 +119,40 @@ impl<'s, A: Allocator + Copy> ChangingLists<'s, A> {
             → All (λ set. length set ≡ n) self.old
             → All (λ set. length set ≡ n) self.new }
     {
-        self.lists.empty(rec);
+        if rec < self.changes.len() {
+            self.changes.empty(rec);
+        }
     }
+}
+
+// Toggles each of these targets in the changes of a record.
+fn toggle_apart<'s, A: Allocator + Copy>(
+    changes: &mut RecordLists<'s, A>,
+    apart: &mut Option<usize>,
+    count: usize,
+    set: &mut Vec<u32, A>,
+    spare: &mut Vec<u32, A>,
+    rec: usize,
+    targets: &[u32],
+) -> Result<(), AllocError>
+    requires apart { IsApart count changes.old apart.old set.old.items }
+    requires few { count ≤ 2 ^ 32 }
+    requires rec { rec < length changes.old }
+    requires targets { All (λ t. t < count) targets.now }
+    ensures rows { OnOk result
+        (with_apart count changes.new apart.new set.new.items
+        ≡ toggled_at rec targets.now (with_apart count changes.old apart.old set.old.items)) }
+    ensures apart { IsApart count changes.new apart.new set.new.items }
+    ensures len { length changes.new ≡ length changes.old }
+{
+    if targets.len() < MANY {
+        put_back(changes, apart, count, set)?;
+        return changes.toggle_each(rec, targets);
+    }
+    take_out(changes, apart, count, set, spare, rec)?;
+    put_toggled(set, targets, spare)?;
+    mem::swap(set, spare);
+    Ok(())
 }
 
 // Puts the set that is apart back into the lists.
@@ -124,6 +167,7 @@ fn put_back<'s, A: Allocator + Copy>(
     ensures lists { OnOk result (lists.new ≡ with_apart targets lists.old apart.old set.now) }
     ensures none { OnOk result (apart.new ≡ None) }
     ensures apart { IsApart targets lists.new apart.new set.now }
+    ensures len { length lists.new ≡ length lists.old }
 {
     if let Some(rec) = *apart {
         lists.empty(rec);
@@ -150,6 +194,7 @@ fn take_out<'s, A: Allocator + Copy>(
         ≡ with_apart targets lists.old apart.old set.old.items) }
     ensures some { OnOk result (apart.new ≡ Some rec) }
     ensures apart { IsApart targets lists.new apart.new set.new.items }
+    ensures len { length lists.new ≡ length lists.old }
 {
     if *apart == Some(rec) {
         return Ok(());

@@ -3,10 +3,12 @@
 #![tactic(auto)]
 
 mod analysis;
+mod ascending;
 mod changing_lists;
 mod collapse;
 mod found;
 mod line_store;
+mod listed_targets;
 mod pass;
 mod places;
 mod point;

@@ -1,16 +1,13 @@
-//! For each record the targets that list it, as linked lists: most records have none or few.
-ghost use Rattle.std.specs.Prelude.{◌≡◌, ◌<◌, ◌≤◌, ◌+◌, ◌-◌, ◌∷◌, ◌^◌, ℕ, [], true, false, length, replicate, slice_index_or, slice_set, All, IfOk, OnOk};
+//! For each record targets of which feedback changes which they are, as linked lists: most records have none or few.
+ghost use Rattle.std.specs.Prelude.{◌≡◌, ◌<◌, ◌≤◌, ◌+◌, ◌-◌, ◌∷◌, ◌^◌, ℕ, [], true, false, length, replicate, slice_index_or, slice_set, All, IfOk, OnErr, OnOk};
 ghost use Rattle.backward.specs.private.Collapses.{toggled_each};
-ghost use Rattle.backward.specs.private.Links.{list_at, rows_at, LeadBack, AreLists, Falls, IsGrown, IsPutAt};
-ghost use Rattle.backward.specs.private.Passes.{listing_sets};
-ghost use Rattle.backward.specs.private.RecordSets.{toggled_in_each};
+ghost use Rattle.backward.specs.private.Links.{list_at, rows_at, LeadBack, AreLists, IsGrown, IsPutAt};
+ghost use Rattle.backward.specs.private.RecordSets.{opened_sets};
 ghost use Rattle.trackers.specs.TargetSets.{members};
 
-use crate::targets::target_count;
-use programs::Program;
+use crate::ascending::make_ascend;
 use std::alloc::{AllocError, Allocator};
 use std::marker::Model;
-use trackers::{SparseSet, TargetSet, make_set};
 
 /// A target in a list, and the place of the rest of the list.
 #[derive(Clone, Copy, Drop)]
@@ -22,7 +19,7 @@ struct Link {
 // With no more links than this each place of a list fits 32 bits.
 const MOST_LINKS: usize = u32::MAX as usize;
 
-/// For each record the set of the targets that list it an odd number of times. Feedback alone changes them.
+/// For each record a set of targets.
 ///
 /// They are kept as linked lists, and a target is in a set where it is in the list an odd number of times: to toggle
 /// it, it is put in front. A list's place is how many links there are up to and with its first, and 0 where it is
@@ -64,7 +61,7 @@ impl<A: Allocator + Copy> Drop for RecordLists<'_, A> {
 }
 
 impl<'s, A: Allocator + Copy> RecordLists<'s, A> {
-    /// Of no records. Takes no memory.
+    /// Of no records yet. Takes no memory.
     pub(crate) fn none(alloc: &'s A) -> Self
         ensures { result ≡ [] }
     {
@@ -77,33 +74,38 @@ impl<'s, A: Allocator + Copy> RecordLists<'s, A> {
         }
     }
 
-    /// The sets of a program after its last step: each target is in those of the records that it lists an odd number
-    /// of times.
-    pub(crate) fn new<'a>(alloc: &'s A, program: &Program<'a, A>) -> Result<Self, AllocError>
-        ensures { IfOk result (λ lists. lists ≡ listing_sets program.now.listing []) }
+    // Empty sets of so many targets.
+    fn new(alloc: &'s A, records: usize, targets: usize) -> Result<Self, AllocError>
+        ensures { IfOk result (λ lists. lists ≡ replicate records (replicate targets false)) }
     {
-        let targets = target_count(program);
-        let mut links = Vec::with_capacity(*alloc, listed_count(program))?;
-        let mut places = Vec::from_elem(*alloc, 0, program.record_count() as usize)?;
-        // From the least up, so that lists descend.
-        for t in 0..targets {
-            put_in_each(&mut links, &mut places, program.target(t), t as u32)?;
-        }
-        let many = many_links(links.len(), places.len());
+        let places = Vec::from_elem(*alloc, 0, records)?;
         Ok(RecordLists {
             alloc,
             targets,
-            links,
+            links: Vec::new(*alloc),
             places,
-            many,
+            many: many_links(0, records),
         })
     }
 
-    /// How many targets each set is of.
-    pub(crate) fn targets(&self) -> usize
-        ensures { All (λ set. length set ≡ result) self.now }
+    /// How many records there are.
+    #[inline(always)]
+    pub(crate) fn len(&self) -> usize
+        ensures { result ≡ length self.now }
     {
-        self.targets
+        self.places.len()
+    }
+
+    /// Gives each of so many records an empty set of so many targets, where there is no record yet.
+    pub(crate) fn open(&mut self, records: usize, targets: usize) -> Result<(), AllocError>
+        ensures ok { OnOk result (self.new ≡ opened_sets records targets self.old) }
+        ensures err { OnErr result (self.new ≡ self.old) }
+    {
+        if self.places.is_empty() {
+            let lists = RecordLists::new(self.alloc, records, targets)?;
+            *self = lists;
+        }
+        Ok(())
     }
 
     /// Puts the targets in the set of a record into `into`, ascending, in place of what it held.
@@ -117,16 +119,9 @@ impl<'s, A: Allocator + Copy> RecordLists<'s, A> {
         ensures { OnOk result (into.new.items ≡ members (slice_index_or self.now rec [])) }
     {
         list_from(self.links.as_slice(), self.places[rec], into)?;
-        // A list that feedback left alone descends, if no target lists the record twice.
-        if falls(into.as_slice()) {
-            into.reverse();
-            return Ok(());
-        }
-        // Sorted, since a set is made fast of targets that ascend.
-        into.sort_unstable();
-        let mut set = SparseSet::none(self.alloc, self.targets);
-        make_set(&mut set, into.as_slice())?;
-        set.list(into)
+        // What was put last stands first.
+        into.reverse();
+        make_ascend(self.alloc, self.targets, into)
     }
 
     /// Toggles each of these targets in the set of a record.
@@ -182,14 +177,7 @@ impl<'s, A: Allocator + Copy> RecordLists<'s, A> {
         ensures { IfOk result (λ lists. lists ≡ self.now) }
     {
         let records = self.places.len();
-        let places = Vec::from_elem(*self.alloc, 0, records)?;
-        let mut lists = RecordLists {
-            alloc: self.alloc,
-            targets: self.targets,
-            links: Vec::new(*self.alloc),
-            places,
-            many: self.many,
-        };
+        let mut lists = RecordLists::new(self.alloc, records, self.targets)?;
         let mut set = Vec::new(*self.alloc);
         for rec in 0..records {
             self.list(rec, &mut set)?;
@@ -226,38 +214,6 @@ fn many_links(links: usize, records: usize) -> usize
         .saturating_mul(2)
         .saturating_add(records)
         .saturating_add(1024)
-}
-
-// How many records the targets list together, each as often as it is listed.
-fn listed_count<'a, A: Allocator + Copy>(program: &Program<'a, A>) -> usize {
-    let mut count: usize = 0;
-    for t in 0..target_count(program) {
-        count = count.saturating_add(program.target(t).len());
-    }
-    count
-}
-
-// Puts a target, which is above all that are there, in front of the list of each of these records.
-fn put_in_each<A: Allocator + Copy>(
-    links: &mut Vec<Link, A>,
-    places: &mut Vec<u32, A>,
-    named: &[u32],
-    target: u32,
-) -> Result<(), AllocError>
-    requires named { All (λ r. r < length places.old.items) named.now }
-    requires lists { AreLists target links.old.items places.old.items }
-    ensures lists { OnOk result (AreLists (target + 1) links.new.items places.new.items) }
-    ensures rows { OnOk result
-        ((m : ℕ)
-        → target < m
-        → rows_at m links.new.items places.new.items
-        ≡ toggled_in_each target named.now (rows_at m links.old.items places.old.items)) }
-{
-    for rec in named {
-        let first = put_first(links, places[*rec as usize], target)?;
-        places[*rec as usize] = first;
-    }
-    Ok(())
 }
 
 // Puts each of these targets in front of a list, the last in front of all, and answers the place of that list. What was
@@ -300,20 +256,6 @@ fn put_first<A: Allocator + Copy>(
         next: place,
     })?;
     Ok(links.len() as u32)
-}
-
-// Whether each target is less than the one before it.
-fn falls(targets: &[u32]) -> bool
-    ensures { result ≡ true → Falls targets.now }
-{
-    let mut left = targets.len();
-    while left > 1 {
-        left -= 1;
-        if targets[left] >= targets[left - 1] {
-            return false;
-        }
-    }
-    true
 }
 
 // Puts the targets of a list into `into`, in place of what it held.

@@ -1,8 +1,7 @@
 -- Lists of targets, linked in one list of links. A place is a number of links: its list begins with the last of that
 -- many links, and at place 0 the list is empty. (This project's own.)
-use Rattle.std.specs.Prelude.{⊤, ◌≡◌, ◌<◌, ◌≤◌, ℕ, zero, suc, Bool, List, [], ◌∷◌, length, map, slice_index_or, All}
+use Rattle.std.specs.Prelude.{◌≡◌, ◌<◌, ◌≤◌, ℕ, zero, suc, Bool, List, [], ◌∷◌, length, map, slice_index_or, All}
 use Rattle.backward.specs.declared.record_lists.Link.{Link}
-use Rattle.trackers.specs.private.Sets.{DescendsBelow}
 use Rattle.trackers.specs.TargetSets.{row_of_set}
 
 abbrev pub no_link : Link
@@ -48,8 +47,3 @@ pub record IsPutAt (targets : List ℕ) (links : List Link) (place : ℕ) (new_l
   pub grown : IsGrown links new_links
   pub placed : new_place ≤ length new_links
   pub put : list_at new_links new_place ≡ put_before targets (list_at links place)
-
--- each target is less than the one before it
-abbrev pub Falls : List ℕ → Type 0
-Falls [] = ⊤
-Falls (t ∷ ts) = DescendsBelow t ts

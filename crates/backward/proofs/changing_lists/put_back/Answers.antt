@@ -54,3 +54,11 @@ returns-in_ok-toggle_each-clause-apart g c =
       within = tt;
       below = c.requires.apart.below;
     }
+
+pub returns-in_err-toggle_each-clause-len : goal.returns-in_err-toggle_each-clause-len
+returns-in_err-toggle_each-clause-len g c =
+    c.toggle_each.ensures.len ∙ (ap length (c.empty.ensures.set c.args.targets c.requires.apart.long) ∙ length-set c.args.lists.now c.in-Some.rec (replicate c.args.targets false))
+
+pub returns-in_ok-toggle_each-clause-len : goal.returns-in_ok-toggle_each-clause-len
+returns-in_ok-toggle_each-clause-len g c =
+    c.toggle_each.ensures.len ∙ (ap length (c.empty.ensures.set c.args.targets c.requires.apart.long) ∙ length-set c.args.lists.now c.in-Some.rec (replicate c.args.targets false))

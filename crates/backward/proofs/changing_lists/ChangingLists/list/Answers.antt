@@ -1,7 +1,58 @@
-use Rattle.std.proofs.Common.{arith}
-use Rattle.backward.proofs.ApartLemmas.{row_length}
+use Rattle.std.proofs.Common.{◌≡◌, ◌<◌, ◌∙◌, [], length, get_or, ap, subst, sym, arith}
+use Rattle.std.specs.Prelude.{All}
+use Rattle.std.proofs.lemmas.Result.{on_ok_weaker}
+use Rattle.backward.specs.private.Apart.{with_apart, with_changes}
+use Rattle.trackers.specs.TargetSets.{members}
+use Rattle.backward.proofs.ChangeLemmas.{as_long, row_changed}
+use Rattle.trackers.proofs.RangeLemmas.{members_within}
+use Rattle.backward.proofs.changing_lists.ChangingLists.list.Given.{Over}
 use Rattle.backward.proofs.changing_lists.ChangingLists.list.Goals as goal
+use Rattle.backward.proofs.changing_lists.ChangingLists.list.Goals.{After-put_back, After-self}
+
+known : (g : Over) (c : After-self g) → (c.args.rec < length c.self.inside.listed) × (length (get_or c.args.self.now c.args.rec []) ≡ c.self.inside.targets)
+known g c =
+    as_long c.self.inside.targets c.args.rec c.self.inside.listed c.self.inside.changes c.args.self.now c.self.inside.apart c.self.inside.set.items c.self.invariant c.self.view_is c.requires.rec
+
+there : (g : Over) (c : After-put_back g) → c.args.rec < length c.put_back.new.lists
+there g c =
+    let within = (as_long c.self.inside.targets c.args.rec c.self.inside.listed c.self.inside.changes c.args.self.now c.self.inside.apart c.self.inside.set.items c.self.invariant c.self.view_is c.requires.rec).0 in
+    omega (arith, within, c.put_back.ensures.len, c.self.invariant.count, c.len.ensures, c.if-len-eq0.false)
 
 pub put_back-requires-clause-few : goal.put_back-requires-clause-few
-put_back-requires-clause-few g c =
-    omega (arith, row_length c.self.inside.targets c.args.rec c.self.inside.lists c.args.self.now c.self.inside.apart c.self.inside.set.items c.self.invariant.long c.self.view_is c.requires.rec, c.requires.long)
+put_back-requires-clause-few g c = omega (arith, (known g (goal.at.put_back-requires-clause-few g c).After-self).1, c.requires.long)
+
+pub list-requires-clause-rec : goal.list-requires-clause-rec
+list-requires-clause-rec g c = there g (goal.at.list-requires-clause-rec g c).After-put_back
+
+pub list-requires-clause-long : goal.list-requires-clause-long
+list-requires-clause-long g c =
+    let at = goal.at.list-requires-clause-long g c in
+    omega (arith, c.put_back.ensures.apart.long c.args.rec [] (there g at.After-put_back), (known g at.After-self).1, c.requires.long)
+
+pub get-requires-2 : goal.get-requires-2
+get-requires-2 g c = (known g (goal.at.get-requires-2 g c).After-self).0
+
+pub make_ascend-requires-2-clause-few : goal.make_ascend-requires-2-clause-few
+make_ascend-requires-2-clause-few g c = omega (arith, (known g (goal.at.make_ascend-requires-2-clause-few g c).After-self).1, c.requires.long)
+
+pub make_ascend-requires-2-clause-below : goal.make_ascend-requires-2-clause-below
+make_ascend-requires-2-clause-below g c =
+    let at = goal.at.make_ascend-requires-2-clause-below g c in
+    let m = c.self.inside.targets in
+    let rec = c.args.rec in
+    let change = get_or c.put_back.new.lists rec [] in
+    c.in_ok-put_toggled.ensures.below m
+    (subst (λ n. All (λ t. t < n) c.get-2.result.now) (c.self.invariant.long rec [] (known g at.After-self).0) c.get-2.ensures.below)
+    (subst (All (λ t. t < m)) (sym (c.deref-2.ensures.value ∙ c.in_ok-list.ensures))
+    (subst (λ n. All (λ t. t < n) (members change)) (c.put_back.ensures.apart.long rec [] (there g at.After-put_back)) (members_within change)))
+
+pub returns-clause-list : goal.returns-clause-list
+returns-clause-list g c =
+    let at = goal.at.returns-clause-list g c in
+    let m = c.self.inside.targets in
+    let listed = c.self.inside.listed in
+    let changes = c.put_back.new.lists in
+    let is = ap (with_changes listed) (c.in_ok-put_back.ensures.lists ∙ ap (with_apart m c.self.inside.changes c.self.inside.apart) c.deref.ensures.value) ∙ c.self.view_is in
+    let row = row_changed m c.args.rec listed changes c.args.self.now c.get-2.result.now c.deref-2.result.now c.put_toggled.new.into.items is (known g at.After-self).0 (there g at.After-put_back)
+    c.self.invariant.long c.put_back.ensures.apart.long c.get-2.ensures.set (c.deref-2.ensures.value ∙ c.in_ok-list.ensures) c.in_ok-put_toggled.ensures in
+    on_ok_weaker c.make_ascend-2.result (λ h. h ∙ ap members row) c.make_ascend-2.ensures

@@ -1,53 +1,54 @@
-use Rattle.std.proofs.Common.{◌<◌, ◌∙◌, [], length, set, ap, subst, sym, arith}
-use Rattle.std.specs.Prelude.{All, IfSome}
-use Rattle.backward.specs.private.Apart.{with_apart}
-use Rattle.trackers.specs.TargetSets.{row_of_set}
-use Rattle.backward.proofs.ApartLemmas.{row_length, toggled_apart, within_as_long}
+use Rattle.std.proofs.Common.{◌≡◌, ◌<◌, ◌∙◌, [], length, get_or, ap, subst, sym, arith}
+use Rattle.std.specs.Prelude.{All}
+use Rattle.std.proofs.lemmas.Result.{on_ok_weaker}
+use Rattle.backward.specs.private.Apart.{toggled_at, with_apart, with_changes, IsApart}
+use Rattle.backward.specs.private.RecordSets.{opened_sets}
+use Rattle.backward.proofs.ApartLemmas.{all-with_apart, length-with_apart}
+use Rattle.backward.proofs.ChangeLemmas.{as_long, opened_apart, opened_count, opened_rows, toggled-with_changes}
+use Rattle.backward.proofs.changing_lists.ChangingLists.toggle_each.Given.{Over}
 use Rattle.backward.proofs.changing_lists.ChangingLists.toggle_each.Goals as goal
+use Rattle.backward.proofs.changing_lists.ChangingLists.toggle_each.Goals.{After-self}
 
-pub put_back-requires-clause-few : goal.put_back-requires-clause-few
-put_back-requires-clause-few g c =
-    let rec = c.args.rec in
-    omega (arith, row_length c.self.inside.targets rec c.self.inside.lists c.args.self.now c.self.inside.apart c.self.inside.set.items c.self.invariant.long c.self.view_is c.requires.rec, c.requires.long rec [] c.requires.rec)
+known : (g : Over) (c : After-self g) → (c.args.rec < length c.self.inside.listed) × (length (get_or c.args.self.now c.args.rec []) ≡ c.self.inside.targets)
+known g c =
+    as_long c.self.inside.targets c.args.rec c.self.inside.listed c.self.inside.changes c.args.self.now c.self.inside.apart c.self.inside.set.items c.self.invariant c.self.view_is c.requires.rec
 
-pub take_out-requires-clause-few : goal.take_out-requires-clause-few
-take_out-requires-clause-few g c =
-    let rec = c.args.rec in
-    omega (arith, row_length c.self.inside.targets rec c.self.inside.lists c.args.self.now c.self.inside.apart c.self.inside.set.items c.self.invariant.long c.self.view_is c.requires.rec, c.requires.long rec [] c.requires.rec)
+pub toggle_apart-requires-clause-few : goal.toggle_apart-requires-clause-few
+toggle_apart-requires-clause-few g c = omega (arith, (known g (goal.at.toggle_apart-requires-clause-few g c).After-self).1, c.requires.long c.args.rec [] c.requires.rec)
 
-pub invariant_of-self-then-targets-lt-MANY : goal.invariant_of-self-then-targets-lt-MANY
-invariant_of-self-then-targets-lt-MANY g c =
-    record {
-      long = c.toggle_each.ensures.long c.self.inside.targets c.put_back.ensures.apart.long;
-      within = within_as_long c.put_back.new.apart c.put_back.new.lists c.toggle_each.new.self c.toggle_each.ensures.len c.put_back.ensures.apart.within;
-      below = c.self.invariant.below;
-    }
+pub toggle_apart-requires-clause-rec : goal.toggle_apart-requires-clause-rec
+toggle_apart-requires-clause-rec g c =
+    let listed = c.self.inside.listed in
+    let is = c.in_ok-open.ensures.ok ∙ ap (λ n. opened_sets n c.self.inside.targets c.self.inside.changes) c.len.ensures in
+    omega (arith, (known g (goal.at.toggle_apart-requires-clause-rec g c).After-self).0, ap length is, opened_count c.self.inside.targets listed c.self.inside.changes c.self.invariant.count)
 
-pub invariant_of-self-2 : goal.invariant_of-self-2
-invariant_of-self-2 g c =
+pub toggle_apart-requires-clause-targets : goal.toggle_apart-requires-clause-targets
+toggle_apart-requires-clause-targets g c =
+    subst (λ n. All (λ t. t < n) c.args.targets.now) (known g (goal.at.toggle_apart-requires-clause-targets g c).After-self).1 c.requires.targets
+
+pub toggle_apart-requires-clause-apart : goal.toggle_apart-requires-clause-apart
+toggle_apart-requires-clause-apart g c =
     let m = c.self.inside.targets in
-    let rec = c.args.rec in
-    let long = row_length m rec c.self.inside.lists c.args.self.now c.self.inside.apart c.self.inside.set.items c.self.invariant.long c.self.view_is c.requires.rec in
-    record {
-      long = c.take_out.ensures.apart.long;
-      within = c.take_out.ensures.apart.within;
-      below =
-          subst (All (λ t. t < m)) (sym (ap (λ v. v.items) c.swap.ensures.x_after))
-          (c.in_ok-put_toggled.ensures.below m
-          (subst (λ n. All (λ t. t < n) c.args.targets.now) long c.requires.targets)
-          (subst (All (λ t. t < m)) (sym c.deref-2.ensures.value) c.take_out.ensures.apart.below));
-    }
+    let is = c.in_ok-open.ensures.ok ∙ ap (λ n. opened_sets n m c.self.inside.changes) c.len.ensures in
+    subst (λ l. IsApart m l c.self.inside.apart c.self.inside.set.items) (sym is) (opened_apart m c.self.inside.listed c.self.inside.changes c.self.inside.apart c.self.inside.set.items c.self.invariant.of_changes)
 
 pub returns : goal.returns
 returns g c =
     let m = c.self.inside.targets in
+    let listed = c.self.inside.listed in
+    let changes = c.self.inside.changes in
+    let apart = c.self.inside.apart in
+    let xs = c.self.inside.set.items in
     let rec = c.args.rec in
-    let rows = c.take_out.new.lists in
-    let some = c.in_ok-take_out.ensures.some in
-    let within : rec < length rows = subst (λ o. IfSome o (λ r. r < length rows)) some c.take_out.ensures.apart.within in
-    ap (λ apart. with_apart m rows apart c.swap.new.x.items) some
-    ∙ (ap (λ v. set rows rec (row_of_set m v.items)) c.swap.ensures.x_after
-    ∙ toggled_apart m rec rows c.args.self.now c.args.targets.now c.deref-2.result.now c.put_toggled.new.into.items within
-    (ap (λ xs. set rows rec (row_of_set m xs)) c.deref-2.ensures.value
-    ∙ (ap (λ apart. with_apart m rows apart c.take_out.new.set.items) (sym some) ∙ (c.in_ok-take_out.ensures.rows ∙ c.self.view_is)))
-    c.in_ok-put_toggled.ensures)
+    let targets = c.args.targets.now in
+    let opened = c.open.new.self in
+    let is = c.in_ok-open.ensures.ok ∙ ap (λ n. opened_sets n m changes) c.len.ensures in
+    let of_opened = subst (λ l. IsApart m l apart xs) (sym is) (opened_apart m listed changes apart xs c.self.invariant.of_changes) in
+    let within = (known g (goal.at.returns g c).After-self).0 in
+    let there : rec < length (with_apart m opened apart xs) = omega (arith, within, length-with_apart m opened apart xs, ap length is, opened_count m listed changes c.self.invariant.count) in
+    let before = ap (λ l. with_changes listed (with_apart m l apart xs)) is ∙ (opened_rows m listed changes apart xs c.self.invariant.long c.self.invariant.of_changes ∙ c.self.view_is) in
+    on_ok_weaker c.toggle_apart.result
+    (λ h. ap (with_changes listed) h
+    ∙ (toggled-with_changes listed (with_apart m opened apart xs) rec m targets within there c.self.invariant.long (all-with_apart m opened apart xs of_opened.long)
+    ∙ ap (toggled_at rec targets) before))
+    c.toggle_apart.ensures.rows

@@ -1,20 +1,10 @@
-use Rattle.std.proofs.Common.{◌≡◌, ◌<◌, ℕ, Bool, false, [], List, length, get_or, set, length-set, inl, inr, ap, ap₂, subst, sym, ◌∙◌, arith}
+use Rattle.std.proofs.Common.{◌≡◌, ◌<◌, ℕ, Bool, false, [], List, length, get_or, set, length-set, inl, inr, ap, subst, sym, ◌∙◌, arith}
 use Rattle.std.specs.Prelude.{All, replicate}
 use Rattle.std.proofs.lemmas.Bool.{cases_eq}
 use Rattle.std.proofs.lemmas.List.{ext_get_or, get_or-replicate, get_or-set_other, get_or-set_same, length-replicate}
-use Rattle.backward.specs.declared.record_lists.Link.{Link}
-use Rattle.backward.specs.private.Links.{rows_at, AreLists}
-use Rattle.backward.proofs.LinkLemmas.{no_lists, no_rows, put_members, rows_counted, rows_of_length}
+use Rattle.backward.proofs.LinkLemmas.{put_members, rows_counted, rows_of_length}
 use Rattle.trackers.proofs.RangeLemmas.{members_within}
 use Rattle.backward.proofs.record_lists.RecordLists.anew.Goals as goal
-
-pub invariant_of-lists : goal.invariant_of-lists
-invariant_of-lists g c =
-    let m = c.self.inside.targets in
-    let n = c.len-records.result in
-    let zeros : c.in_ok-places.places.items ≡ replicate n 0 = c.in_ok-places.ensures.items_if_clones_equal (λ y h. h) in
-    subst (λ (links : List Link). AreLists m links c.in_ok-places.places.items) (sym c.new.ensures.items)
-    (subst (AreLists m []) (sym zeros) (no_lists m n))
 
 pub loop-rec-init : goal.loop-rec-init
 loop-rec-init g c =
@@ -25,8 +15,7 @@ loop-rec-init g c =
     let sets = c.args.self.now in
     let count = rows_counted m links places sets c.self.view_is in
     let many : n ≡ length sets = omega (arith, count, c.len-records.ensures) in
-    let zeros : c.in_ok-places.places.items ≡ replicate n 0 = c.in_ok-places.ensures.items_if_clones_equal (λ y h. h) in
-    let none : rows_at m c.new.result.items c.in_ok-places.places.items ≡ replicate n (replicate m false) = ap₂ (rows_at m) c.new.ensures.items zeros ∙ no_rows m n in
+    let none : c.in_ok-lists.lists ≡ replicate n (replicate m false) = c.in_ok-lists.ensures in
     record {
       long = ap length none ∙ (length-replicate n (replicate m false) ∙ many);
       done = λ k lt. absurd (omega (arith, lt));

@@ -1,0 +1,65 @@
+-- The targets that list each record, in one list of numbers: those of one record stand one after another. They are put
+-- there target by target: of each record there is a mark, before which what was put for it stands. What is left to be put
+-- are records, each as often as it is listed. (This project's own.)
+use Rattle.std.specs.Prelude.{◌≡◌, ◌<◌, ◌≤◌, ◌+◌, ◌^◌, ◌==◌, nat_lt, ◌&&◌, ℕ, zero, suc, Bool, List, [], ◌∷◌, length, map, drop, slice_index_or, slice_range, All, cond}
+use Rattle.std.specs.List.{concat, range_with_len}
+use Rattle.step_model.specs.Listing.{Listing}
+use Rattle.step_model.specs.Targets.{is_listed, target_at, targets_of}
+use Rattle.trackers.specs.TargetSets.{row_of_set}
+
+-- the rows of bits for which the parts of a list of numbers stand that have these ends
+abbrev pub parts_at : ℕ → List ℕ → List ℕ → List (List Bool)
+parts_at m ends numbers =
+    map (λ r. row_of_set m (slice_range numbers (slice_index_or (0 ∷ ends) r 0) (slice_index_or ends r 0))) (range_with_len 0 (length ends))
+
+-- the ends don't fall, and none is behind the last number; the numbers are below a bound
+pub record AreParts (m : ℕ) (ends numbers : List ℕ) : Type 0 where
+  pub ordered : (r : ℕ) → r < length ends → slice_index_or (0 ∷ ends) r 0 ≤ slice_index_or ends r 0
+  pub within : (r : ℕ) → r < length ends → slice_index_or ends r 0 ≤ length numbers
+  pub below : All (λ t. t < m) numbers
+
+-- how often a list has a record
+abbrev pub times_in : ℕ → List ℕ → ℕ
+times_in r [] = 0
+times_in r (s ∷ named) = cond (s == r) 1 0 + times_in r named
+
+abbrev pub AreCounts : List ℕ → List ℕ → Type 0
+AreCounts whole counts = (r : ℕ) → r < length counts → slice_index_or counts r 0 ≡ times_in r whole
+
+-- where the numbers of a record start
+abbrev pub start_of : List ℕ → ℕ → ℕ
+start_of whole zero = 0
+start_of whole (suc r) = start_of whole r + times_in r whole
+
+abbrev pub AreStarts : List ℕ → List ℕ → Type 0
+AreStarts whole starts = (r : ℕ) → r < length starts → slice_index_or starts r 0 ≡ start_of whole r
+
+-- what targets list, from one on
+abbrev pub left_from : Listing → ℕ → List ℕ
+left_from program t = concat (drop t (targets_of program))
+
+-- what is left of the whole has room between the mark of its record and the next record's start
+pub record HasRoom (whole left marks numbers : List ℕ) : Type 0 where
+  pub low : (r : ℕ) → r < length marks → start_of whole r ≤ slice_index_or marks r 0
+  pub ahead : (r : ℕ) → r < length marks → slice_index_or marks r 0 + times_in r left ≡ start_of whole (suc r)
+  pub within : start_of whole (length marks) ≤ length numbers
+  pub few : length numbers < 2 ^ 32
+
+-- the rows for which what was put stands
+abbrev pub marked_rows : ℕ → List ℕ → List ℕ → List ℕ → List (List Bool)
+marked_rows m whole marks numbers =
+    map (λ r. row_of_set m (slice_range numbers (start_of whole r) (slice_index_or marks r 0))) (range_with_len 0 (length marks))
+
+-- the sets of all records, of the targets below t
+abbrev pub listed_below : Listing → ℕ → ℕ → ℕ → Bool
+listed_below program t r d = nat_lt d t && is_listed (target_at program d) r
+
+abbrev pub listing_below : Listing → ℕ → List (List Bool)
+listing_below program t =
+    map (λ r. map (listed_below program t r) (range_with_len 0 (length (targets_of program)))) (range_with_len 0 program.records)
+
+-- the targets below t were put
+pub record ArePut (program : Listing) (t : ℕ) (marks numbers : List ℕ) : Type 0 where
+  pub room : HasRoom (left_from program 0) (left_from program t) marks numbers
+  pub rows : marked_rows (length (targets_of program)) (left_from program 0) marks numbers ≡ listing_below program t
+  pub below : All (λ n. n < length (targets_of program)) numbers
