@@ -214,6 +214,14 @@ appended m (x ∷ y ∷ xs) t h last =
     ap (λ l. x ∷ l) (appended x (y ∷ xs) t h.1 (λ k e. last (suc k) (ap suc e)))
     ∙ sym (xor_front t x (y ∷ xs) (omega (arith, low, top)))
 
+-- the same by the last of them
+pub came_last : (m : ℕ) (xs seen : List ℕ) (t : ℕ) → seen ≡ xs → (0 < length seen → t < get_or seen (length seen - 1) 0) → DescendsBelow m xs → xs ++ t ∷ [] ≡ xor_sets (t ∷ []) xs
+came_last m xs seen t is low descends =
+    appended m xs t descends
+    (λ k e. let here = low (omega (arith, e, ap length is)) in
+    let last : length seen - 1 ≡ k = omega (arith, e, ap length is) in
+    subst (λ (s : List ℕ). t < get_or s k 0) is (subst (λ j. t < get_or seen j 0) last here))
+
 -- ---- rows
 pub length-row_of_set : (m : ℕ) (xs : List ℕ) → length (row_of_set m xs) ≡ m
 length-row_of_set m xs = length-map-range_with_len (is_listed xs) 0 m
