@@ -205,7 +205,7 @@ inserted m (x ∷ xs) (suc (suc i)) t h le below above =
     ∙ sym (xor_front t x xs (omega (arith, low, there)))
 
 -- a target that comes last
-pub appended : (m : ℕ) (xs : List ℕ) (t : ℕ) → DescendsBelow m xs → ((k : ℕ) → suc k ≡ length xs → t < get_or xs k 0) → xs ++ t ∷ [] ≡ xor_sets (t ∷ []) xs
+appended : (m : ℕ) (xs : List ℕ) (t : ℕ) → DescendsBelow m xs → ((k : ℕ) → suc k ≡ length xs → t < get_or xs k 0) → xs ++ t ∷ [] ≡ xor_sets (t ∷ []) xs
 appended m [] t h last = refl
 appended m (x ∷ []) t h last = sym (xor_front t x [] (last 0 refl))
 appended m (x ∷ y ∷ xs) t h last =

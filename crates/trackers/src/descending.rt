@@ -61,8 +61,8 @@ pub(crate) fn empty<A: Allocator + Copy>(items: &mut SmallVec<u32, 4, A>)
     }
 }
 
-/// Takes a target out of a descending list, or puts it in at its place. Most come behind all that are there, in a list
-/// with no allocation and with a place left, which is asked first.
+/// Takes a target out of a descending list, or puts it in at its place. Most come behind all that are there, where a
+/// place is left with no allocation: this is asked first, and takes no call.
 #[inline]
 pub(crate) fn toggle_in<A: Allocator + Copy>(
     items: &mut SmallVec<u32, 4, A>,
