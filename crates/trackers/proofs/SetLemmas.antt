@@ -205,7 +205,7 @@ inserted m (x ∷ xs) (suc (suc i)) t h le below above =
     ∙ sym (xor_front t x xs (omega (arith, low, there)))
 
 -- a target that comes last
-pub appended : (m : ℕ) (xs : List ℕ) (t : ℕ) → DescendsBelow m xs → ((k : ℕ) → suc k ≡ length xs → t < get_or xs k 0) → xs ++ t ∷ [] ≡ xor_sets (t ∷ []) xs
+appended : (m : ℕ) (xs : List ℕ) (t : ℕ) → DescendsBelow m xs → ((k : ℕ) → suc k ≡ length xs → t < get_or xs k 0) → xs ++ t ∷ [] ≡ xor_sets (t ∷ []) xs
 appended m [] t h last = refl
 appended m (x ∷ []) t h last = sym (xor_front t x [] (last 0 refl))
 appended m (x ∷ y ∷ xs) t h last =
@@ -213,6 +213,14 @@ appended m (x ∷ y ∷ xs) t h last =
     let top : get_or (y ∷ xs) (length xs) 0 < x = get_below x (y ∷ xs) (length xs) h.1 (omega arith) in
     ap (λ l. x ∷ l) (appended x (y ∷ xs) t h.1 (λ k e. last (suc k) (ap suc e)))
     ∙ sym (xor_front t x (y ∷ xs) (omega (arith, low, top)))
+
+-- the same by the last of them
+pub came_last : (m : ℕ) (xs seen : List ℕ) (t : ℕ) → seen ≡ xs → (0 < length seen → t < get_or seen (length seen - 1) 0) → DescendsBelow m xs → xs ++ t ∷ [] ≡ xor_sets (t ∷ []) xs
+came_last m xs seen t is low descends =
+    appended m xs t descends
+    (λ k e. let here = low (omega (arith, e, ap length is)) in
+    let last : length seen - 1 ≡ k = omega (arith, e, ap length is) in
+    subst (λ (s : List ℕ). t < get_or s k 0) is (subst (λ j. t < get_or seen j 0) last here))
 
 -- ---- rows
 pub length-row_of_set : (m : ℕ) (xs : List ℕ) → length (row_of_set m xs) ≡ m

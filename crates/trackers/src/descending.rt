@@ -8,8 +8,8 @@ use std::alloc::{AllocError, Allocator};
 /// Two lists are short where they have at most this many together.
 pub(crate) const FEW: usize = 16;
 
-/// Puts the first `len` of these in place of what a list holds, which is emptied by an error. It is asked how many, so
-/// that the places which stay empty are known where they are filled with blanks: else that is a call.
+/// Puts the first `len` of these in place of what a list holds, which is emptied by an error. Each length up to four has
+/// an arm of its own, in which it is known what places stay blank: else to make them blank is a call.
 #[inline(always)]
 pub(crate) fn put_few<A: Allocator + Copy>(
     items: &mut SmallVec<u32, 4, A>,
@@ -61,9 +61,29 @@ pub(crate) fn empty<A: Allocator + Copy>(items: &mut SmallVec<u32, 4, A>)
     }
 }
 
-/// Takes a target out of a descending list, or puts it in at its place. Most come behind all that are there.
+/// Takes a target out of a descending list, or puts it in at its place. Most come behind all that are there, where a
+/// place is left with no allocation: this is asked first, and takes no call.
 #[inline]
 pub(crate) fn toggle_in<A: Allocator + Copy>(
+    items: &mut SmallVec<u32, 4, A>,
+    target: u32,
+) -> Result<(), AllocError>
+    ensures ok { OnOk result
+        ((m : ℕ)
+        → DescendsBelow m items.old.items
+        → items.new.items ≡ xor_sets (target ∷ []) items.old.items) }
+    ensures err { OnErr result (items.new.items ≡ items.old.items) }
+{
+    if !items.spilled() && items.len() < 4 && comes_last(items.as_slice(), target) {
+        items.push_reserved(target);
+        return Ok(());
+    }
+    toggle_anywhere(items, target)
+}
+
+// The same for any list.
+#[inline(never)]
+fn toggle_anywhere<A: Allocator + Copy>(
     items: &mut SmallVec<u32, 4, A>,
     target: u32,
 ) -> Result<(), AllocError>
@@ -91,8 +111,7 @@ fn comes_last(items: &[u32], target: u32) -> bool
     items.is_empty() || target < items[items.len() - 1]
 }
 
-// The same, for a target that may stand anywhere.
-#[inline(never)]
+// The same, where the target may stand anywhere.
 fn toggle_among<A: Allocator + Copy>(
     items: &mut SmallVec<u32, 4, A>,
     target: u32,
