@@ -4,7 +4,6 @@ ghost use Rattle.step_model.specs.Ends.{Takes, TakesBeginning, write_failures};
 ghost use Rattle.step_model.specs.Faults.{write_fault};
 ghost use Rattle.streams.specs.Pushed.{Pushes};
 
-use arrayvec::ArrayVec;
 use std::marker::Model;
 use step_model::{Cause, Fault, Sink, write_all};
 
@@ -15,16 +14,20 @@ const PIECE: usize = 16384;
 /// it is not called again: what is pushed after that is dropped, and `finish` answers the failure. Allocates nothing.
 #[derive(Drop)]
 pub struct Pieces {
-    held: ArrayVec<u8, PIECE>,
+    buffer: [u8; PIECE],
+    len: usize,
     failed: bool,
 }
 
 impl Model for Pieces {
+    ghost use Rattle.std.specs.Prelude.{◌≤◌, take};
     ghost use Rattle.streams.specs.Held.{Held};
 
     ghost Value = { Held };
 
-    ghost view = { λ p. record { bytes = p.held.items; failed = p.failed } };
+    ghost view = { λ p. record { bytes = take p.len p.buffer; failed = p.failed } };
+
+    ghost invariant = { λ p. p.len ≤ 16384 };
 }
 
 impl Pieces {
@@ -33,7 +36,8 @@ impl Pieces {
         ensures { result ≡ record { bytes = []; failed = false } }
     {
         Pieces {
-            held: ArrayVec::new(),
+            buffer: [0; PIECE],
+            len: 0,
             failed: false,
         }
     }
@@ -86,7 +90,13 @@ impl Pieces {
             ≡ (if result then record self.old { bytes = self.old.bytes ++ bytes.now } else
             self.old) }
     {
-        self.held.try_extend_from_slice(bytes).is_ok()
+        if bytes.len() > PIECE - self.len {
+            return false;
+        }
+        let end = self.len + bytes.len();
+        self.buffer[self.len..end].copy_from_slice(bytes);
+        self.len = end;
+        true
     }
 
     // Sends more bytes than a piece holds, without copying them.
@@ -107,9 +117,9 @@ impl Pieces {
         if self.failed {
             return;
         }
-        self.failed = write_all(sink, self.held.as_slice()).is_err();
+        self.failed = write_all(sink, &self.buffer[..self.len]).is_err();
         if !self.failed {
-            self.held.clear();
+            self.len = 0;
         }
     }
 }
