@@ -81,8 +81,9 @@ impl<A: Allocator + Copy> Nodes<A> {
         requires within { index ≤ length self.now }
         ensures { PassesBack (λ i. is_fault_node (slice_get self.now i)) least index result }
     {
+        let kept = self.kept.as_slice();
         let mut first = index;
-        while least < first && is_fault(self.kept[first - 1]) {
+        while least < first && is_fault(kept[first - 1]) {
             first -= 1;
         }
         first
