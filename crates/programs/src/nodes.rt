@@ -75,6 +75,14 @@ impl<A: Allocator + Copy> Nodes<A> {
         step_of(self.kept[index])
     }
 
+    /// Whether a fault stands at an index.
+    #[inline(always)]
+    pub(crate) fn is_fault(&self, index: usize) -> bool
+        ensures { result ≡ is_fault_node (slice_get self.now index) }
+    {
+        index < self.kept.len() && is_fault(self.kept[index])
+    }
+
     /// Where the faults begin that stand right before an index: those from `least` on.
     pub(crate) fn faults_back(&self, index: usize, least: usize) -> usize
         requires least { least ≤ index }
