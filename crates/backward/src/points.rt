@@ -13,6 +13,7 @@ use trackers::Tracker;
 
 /// Goes back to `from`, finds no lines, and leaves points on the way: one where it begins, and further ones `distance`
 /// steps apart.
+#[inline(never)]
 pub(crate) fn leave_points<'s, 'p, 'a, A: Allocator + Copy, T: Tracker>(
     program: &Program<'a, A>,
     from: usize,

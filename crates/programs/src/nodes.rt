@@ -75,14 +75,23 @@ impl<A: Allocator + Copy> Nodes<A> {
         step_of(self.kept[index])
     }
 
+    /// Whether a fault stands at an index.
+    #[inline(always)]
+    pub(crate) fn is_fault(&self, index: usize) -> bool
+        ensures { result ≡ is_fault_node (slice_get self.now index) }
+    {
+        index < self.kept.len() && is_fault(self.kept[index])
+    }
+
     /// Where the faults begin that stand right before an index: those from `least` on.
     pub(crate) fn faults_back(&self, index: usize, least: usize) -> usize
         requires least { least ≤ index }
         requires within { index ≤ length self.now }
         ensures { PassesBack (λ i. is_fault_node (slice_get self.now i)) least index result }
     {
+        let kept = self.kept.as_slice();
         let mut first = index;
-        while least < first && is_fault(self.kept[first - 1]) {
+        while least < first && is_fault(kept[first - 1]) {
             first -= 1;
         }
         first

@@ -1,5 +1,5 @@
 ghost use Rattle.std.specs.Prelude.{◌≡◌, ◌<◌, ◌+◌, ◌^◌, length, None, IfSome, slice_get};
-ghost use Rattle.programs.specs.Steps.{StandsIn, KeepsStep, MovesTo, IsNoOpen, IsNoClose, NextStep, PreviousStep, PreviousFaults, is_step, node_before};
+ghost use Rattle.programs.specs.Steps.{StandsIn, KeepsStep, MovesTo, IsNoOpen, IsNoClose, NextStep, PreviousStep, PreviousFaults, is_step, is_fault_node, node_before};
 
 use crate::node::Node;
 use crate::nodes::Nodes;
@@ -199,7 +199,8 @@ pub fn previous_faults<A: Allocator + Copy>(
     requires { StandsIn nodes.now place.old }
     ensures { PreviousFaults nodes.now place.old place.new most result }
 {
-    if !go_back_to_step(nodes, place) {
+    // Most steps that aren't faults are answered here.
+    if !go_back_to_step(nodes, place) || !is_after_fault(nodes, place.index) {
         return 0;
     }
     let index = place.index;
@@ -213,6 +214,14 @@ fn is_after_step<A: Allocator + Copy>(nodes: &Nodes<A>, index: usize) -> bool
     ensures { result ≡ is_step (node_before nodes.now index) }
 {
     index > 0 && nodes.is_step(index - 1)
+}
+
+// Whether the node before a place is a fault.
+#[inline(always)]
+fn is_after_fault<A: Allocator + Copy>(nodes: &Nodes<A>, index: usize) -> bool
+    ensures { result ≡ is_fault_node (node_before nodes.now index) }
+{
+    index > 0 && nodes.is_fault(index - 1)
 }
 
 // The node before a place.

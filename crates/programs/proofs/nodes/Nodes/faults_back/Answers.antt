@@ -1,10 +1,10 @@
-use Rattle.std.proofs.Common.{◌≡◌, true, inl, inr, ◌-◌, length, ap, subst, sym, ◌∙◌, arith}
-use Rattle.std.specs.Prelude.{slice_get}
+use Rattle.std.proofs.Common.{◌≡◌, true, inl, inr, ◌-◌, ◌<◌, length, ap, subst, sym, ◌∙◌, arith}
+use Rattle.std.specs.Prelude.{option_map, slice_get}
+use Rattle.std.proofs.lemmas.Option.{slice_get-map, slice_get-get_or}
 use Rattle.std.proofs.lemmas.Bool.{cases_lt}
 use Rattle.std.proofs.lemmas.List.{length-map}
 use Rattle.programs.specs.Steps.{is_fault_node}
 use Rattle.programs.specs.private.KeptNodes.{node_of}
-use Rattle.programs.proofs.NodeLaws.{node_at}
 use Rattle.programs.proofs.nodes.Nodes.faults_back.Given.{Over}
 use Rattle.programs.proofs.nodes.Nodes.faults_back.Goals as goal
 use Rattle.programs.proofs.nodes.Nodes.faults_back.Goals.{After-is_fault}
@@ -14,7 +14,11 @@ asked : (g : Over) (c : After-is_fault g) → is_fault_node (slice_get c.args.se
 asked g c =
     let sizes = c.self.inside.sizes.items in
     let kept = c.self.inside.kept.items in
-    ap is_fault_node (node_at sizes kept c.args.self.now (c.loop-first.first - 1) c.index.result.now c.self.view_is (omega (arith, ap length c.self.view_is, length-map kept (node_of sizes))) c.index.ensures)
+    let i = c.loop-first.first - 1 in
+    let below : i < length c.as_slice-kept.result.now = omega (arith, ap length c.self.view_is, length-map kept (node_of sizes), ap length c.as_slice-kept.ensures.value) in
+    ap is_fault_node (ap (λ ns. slice_get ns i) (sym c.self.view_is) ∙ slice_get-map (node_of sizes) kept i
+    ∙ ap (λ xs. option_map (node_of sizes) (slice_get xs i)) (sym c.as_slice-kept.ensures.value)
+    ∙ ap (option_map (node_of sizes)) (slice_get-get_or c.as_slice-kept.result.now i _ below))
     ∙ sym (c.is_fault.ensures sizes)
 
 pub loop-first-preserved : goal.loop-first-preserved
