@@ -169,8 +169,3 @@ below_rest m i j into xs targets all of_set of_targets =
     All-append (λ t. t < m) (into ++ drop i xs) (drop j targets)
     (All-append (λ t. t < m) into (drop i xs) all (All-drop (λ t. t < m) i xs of_set))
     (All-drop (λ t. t < m) j targets of_targets)
-
--- how many targets the rows are of
-pub row_length : (m r : ℕ) (rows whole : List (List Bool)) (apart : Option ℕ) (xs : List ℕ) → All (λ row. length row ≡ m) rows → with_apart m rows apart xs ≡ whole → r < length whole → length (get_or whole r []) ≡ m
-row_length m r rows whole apart xs all is within =
-    subst (All (λ row. length row ≡ m)) is (all-with_apart m rows apart xs all) r [] within

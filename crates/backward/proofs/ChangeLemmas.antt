@@ -30,7 +30,7 @@ all-with_changes m (row ∷ rows) (c ∷ changes) all of_changes zero d lt =
 all-with_changes m (row ∷ rows) (c ∷ changes) all of_changes (suc k) d lt =
     all-with_changes m rows changes (λ k d lt. all (suc k) d (omega (arith, lt))) (λ k d lt. of_changes (suc k) d (omega (arith, lt))) k d (omega (arith, lt))
 
-pub row-with_changes : (rows changes : List (List Bool)) (r : ℕ) → r < length rows → r < length changes → get_or (with_changes rows changes) r [] ≡ xor_rows (get_or rows r []) (get_or changes r [])
+row-with_changes : (rows changes : List (List Bool)) (r : ℕ) → r < length rows → r < length changes → get_or (with_changes rows changes) r [] ≡ xor_rows (get_or rows r []) (get_or changes r [])
 row-with_changes rows [] r lt there = absurd (omega (arith, there))
 row-with_changes [] (c ∷ changes) r lt there = absurd (omega (arith, lt))
 row-with_changes (row ∷ rows) (c ∷ changes) zero lt there = refl

@@ -164,10 +164,6 @@ below_put m (t ∷ ts) list low below =
     more zero d lt = low 0 d (omega arith)
     more (suc k) d lt = below k d (omega (arith, lt))
 
-pub below_one : (t m : ℕ) → t < m → All (λ t. t < m) (t ∷ [])
-below_one t m low zero d lt = low
-below_one t m low (suc k) d lt = absurd (omega (arith, lt))
-
 pub lists_put : (m r : ℕ) (links : List Link) (places : List ℕ) (place : ℕ) (new_links : List Link) (new_place : ℕ) (targets : List ℕ) → AreLists m links places → r < length places → place ≡ get_or places r place
     → All (λ t. t < m) targets → IsPutAt targets links place new_links new_place → AreLists m new_links (set places r new_place)
 lists_put m r links places place new_links new_place targets lists within read low t =

@@ -78,8 +78,7 @@ impl<'s, A: Allocator + Copy> ChangingLists<'s, A> {
         ensures same { OnOk result (self.new ≡ self.old) }
     {
         if self.changes.len() == 0 {
-            into.clear();
-            into.extend_from_slice(self.listed.get(rec))?;
+            copy_into(self.listed.get(rec), into)?;
             return make_ascend(self.alloc, self.targets, into);
         }
         put_back(&mut self.changes, &mut self.apart, self.targets, &self.set)?;
@@ -123,6 +122,18 @@ impl<'s, A: Allocator + Copy> ChangingLists<'s, A> {
             self.changes.empty(rec);
         }
     }
+}
+
+// Puts copies of targets into `into`, in place of what it held. They are few, mostly.
+#[inline(always)]
+fn copy_into<B: Allocator + Copy>(targets: &[u32], into: &mut Vec<u32, B>) -> Result<(), AllocError>
+    ensures { OnOk result (into.new.items ≡ targets.now) }
+{
+    into.clear();
+    for target in targets {
+        into.push(*target)?;
+    }
+    Ok(())
 }
 
 // Toggles each of these targets in the changes of a record.

@@ -1,4 +1,4 @@
-//! For each record targets of which feedback changes which they are, as linked lists: most records have none or few.
+//! For each record the targets that feedback changes, as linked lists: most records have none or few.
 ghost use Rattle.std.specs.Prelude.{◌≡◌, ◌<◌, ◌≤◌, ◌+◌, ◌-◌, ◌∷◌, ◌^◌, ℕ, [], true, false, length, replicate, slice_index_or, slice_set, All, IfOk, OnErr, OnOk};
 ghost use Rattle.backward.specs.private.Collapses.{toggled_each};
 ghost use Rattle.backward.specs.private.Links.{list_at, rows_at, LeadBack, AreLists, IsGrown, IsPutAt};
