@@ -3,7 +3,7 @@ use Rattle.std.proofs.Common.{◌≡◌, ℕ, zero, suc, ◌+◌, ◌-◌, ◌<�
 use Rattle.std.specs.Prelude.{slice_get}
 use Rattle.std.proofs.lemmas.List.{drop_more}
 use Rattle.std.proofs.lemmas.Option.{slice_get_within, get_or_from_slice_get}
-use Rattle.step_model.specs.Listing.{ListedStep, Fault}
+use Rattle.step_model.specs.Listing.{Listing, ListedStep, Fault}
 use Rattle.programs.specs.Kept.{KeptProgram}
 use Rattle.programs.specs.Walks.{PassesBack, is_fault}
 use Rattle.trackers.specs.Tracked.{Tracked}
@@ -15,13 +15,13 @@ fault_there : (o : Option ListedStep) → is_fault o ≡ true → (f : ℕ) × (
 fault_there (Some (Fault f)) h = (f, refl)
 fault_there other h = cc
 
-module _ {A : Type 0} (program : KeptProgram) (t : Tracked) (found : Found A) where
-  fault_at : (place f : ℕ) → slice_get program.listing.steps place ≡ Some (Fault f) → IsStepAt program.listing place (Fault f)
-  fault_at place f there =
-      let steps = program.listing.steps in
-      drop_more steps place (Fault f) (slice_get_within steps place (Fault f) there)
-      ∙ ap (λ s. s ∷ drop (place + 1) steps) (get_or_from_slice_get steps place (Fault f) (Fault f) there)
+pub fault_at : (program : Listing) (place f : ℕ) → slice_get program.steps place ≡ Some (Fault f) → IsStepAt program place (Fault f)
+fault_at program place f there =
+    let steps = program.steps in
+    drop_more steps place (Fault f) (slice_get_within steps place (Fault f) there)
+    ∙ ap (λ s. s ∷ drop (place + 1) steps) (get_or_from_slice_get steps place (Fault f) (Fault f) there)
 
+module _ {A : Type 0} (program : KeptProgram) (t : Tracked) (found : Found A) where
   over_faults : (count old new : ℕ) → old ≡ new + count → ((k : ℕ) → new ≤ k → k < old → is_fault (slice_get program.listing.steps k) ≡ true) → IsPassed program.listing old t found → IsPassed program.listing new t found
   over_faults zero old new e each h = subst (λ place. IsPassed program.listing place t found) (omega (arith, e)) h
   over_faults (suc count) old new e each h =
@@ -29,7 +29,7 @@ module _ {A : Type 0} (program : KeptProgram) (t : Tracked) (found : Found A) wh
       let there = fault_there (slice_get program.listing.steps place) (each place (omega (arith, e)) (omega (arith, e))) in
       let after : IsPassed program.listing (place + 1) t found = subst (λ place. IsPassed program.listing place t found) (omega (arith, e)) h in
       over_faults count place new (omega (arith, e)) (λ k from to. each k from (omega (arith, to)))
-      (passed-fault program place t found after there.0 t (fault_at place there.0 there.1) refl)
+      (passed-fault program place t found after there.0 t (fault_at program.listing place there.0 there.1) refl)
 
   pub passed-faults : (walked : KeptProgram) (from old new : ℕ) → walked ≡ program → PassesBack (λ k. is_fault (slice_get walked.listing.steps k)) from old new → IsPassed program.listing old t found → IsPassed program.listing new t found
   passed-faults walked from old new same went =

@@ -1,5 +1,5 @@
 //! Going back over the steps of a program, one at a time.
-ghost use Rattle.std.specs.Prelude.{◌≡◌, ◌<◌, ◌-◌, ◌+◌, length, All, OnOk, Some, None};
+ghost use Rattle.std.specs.Prelude.{◌≡◌, ◌<◌, ◌≤◌, ◌-◌, ◌+◌, length, reverse, All, OnOk, Some, None};
 ghost use Rattle.step_model.specs.Listing.{Fault};
 ghost use Rattle.step_model.specs.Targets.{targets_of};
 ghost use Rattle.programs.specs.Kept.{kept_at};
@@ -7,7 +7,7 @@ ghost use Rattle.programs.specs.Listed.{listed};
 ghost use Rattle.programs.specs.Named.{IsNamed, IsNamedFlip, IsStepOf};
 ghost use Rattle.backward.specs.private.Passes.{IsCollapseAt, IsFeedbackAt, IsPassed, IsStepAt, Stays};
 ghost use Rattle.backward.specs.private.Steps.{IsGoneOver, IsUndone};
-ghost use Rattle.backward.specs.private.Stretches.{Gives, flip_line, line_for, lines_at};
+ghost use Rattle.backward.specs.private.Stretches.{Gives, flip_line, line_for, lines_at, lines_between};
 
 use crate::collapse::undo_collapse;
 use crate::found::Found;
@@ -46,6 +46,74 @@ pub(crate) fn step_back<'s, 'p, 'a, A: Allocator + Copy, T: Tracker, L: LineStor
         Some(step) => go_over(program, step, at, found, lines),
         None => Ok(()),
     }
+}
+
+/// Goes back over the faults right before a point, to a place at most. Most steps of a noisy circuit are faults in runs, so
+/// these have a loop of their own.
+fn faults_back<'s, 'p, 'a, A: Allocator + Copy, T: Tracker, L: LineStore>(
+    program: &Program<'a, A>,
+    to: usize,
+    at: &mut Point<'p, 'a, A, T>,
+    found: &mut Found<'s, A>,
+    lines: &mut L,
+) -> Result<(), AllocError>
+    requires program { at.old.walk.program ≡ program.now }
+    requires to { to ≤ at.old.walk.place }
+    requires store { L.program lines.old ≡ program.now }
+    requires passed { IsPassed program.now.listing at.old.walk.place (T.tracked at.old.tracker)
+        found.old }
+    ensures program { at.new.walk.program ≡ at.old.walk.program }
+    ensures to { to ≤ at.new.walk.place }
+    ensures back { at.new.walk.place ≤ at.old.walk.place }
+    ensures passed { OnOk result
+        (IsPassed program.now.listing at.new.walk.place (T.tracked at.new.tracker) found.new) }
+    ensures stays { Stays found.old found.new }
+    ensures lines { OnOk result
+        (Gives (L.holds lines.old) (L.holds lines.new)
+        (reverse
+        (lines_between program.now.listing at.new.walk.place at.old.walk.place))) }
+    ensures store { L.program lines.new ≡ L.program lines.old }
+{
+    while at.walk.place() > to {
+        match at.walk.previous_fault() {
+            Some(name) => fault(program, name, at, found, lines)?,
+            None => return Ok(()),
+        }
+    }
+    Ok(())
+}
+
+/// Goes back over the faults right before a point, and over the step before these, to a place at most.
+pub(crate) fn steps_back<'s, 'p, 'a, A: Allocator + Copy, T: Tracker, L: LineStore>(
+    program: &Program<'a, A>,
+    to: usize,
+    at: &mut Point<'p, 'a, A, T>,
+    found: &mut Found<'s, A>,
+    lines: &mut L,
+) -> Result<(), AllocError>
+    requires program { at.old.walk.program ≡ program.now }
+    requires to { to < at.old.walk.place }
+    requires store { L.program lines.old ≡ program.now }
+    requires passed { IsPassed program.now.listing at.old.walk.place (T.tracked at.old.tracker)
+        found.old }
+    ensures program { at.new.walk.program ≡ at.old.walk.program }
+    ensures to { to ≤ at.new.walk.place }
+    ensures back { at.new.walk.place ≤ at.old.walk.place }
+    ensures some { OnOk result (at.new.walk.place < at.old.walk.place) }
+    ensures passed { OnOk result
+        (IsPassed program.now.listing at.new.walk.place (T.tracked at.new.tracker) found.new) }
+    ensures stays { Stays found.old found.new }
+    ensures lines { OnOk result
+        (Gives (L.holds lines.old) (L.holds lines.new)
+        (reverse
+        (lines_between program.now.listing at.new.walk.place at.old.walk.place))) }
+    ensures store { L.program lines.new ≡ L.program lines.old }
+{
+    faults_back(program, to, at, found, lines)?;
+    if at.walk.place() <= to {
+        return Ok(());
+    }
+    step_back(program, at, found, lines)
 }
 
 // Goes back over a step, which the walk has gone back over already.
@@ -90,7 +158,7 @@ fn go_over<'s, 'p, 'a, A: Allocator + Copy, T: Tracker, L: LineStore>(
             let terms = program.product(product);
             collapse(program, terms, None, rec, flip, at, found, lines)
         }
-        Step::Fault(name) => fault(program, name, at, found, lines),
+        Step::Fault(name) => lone_fault(program, name, at, found, lines),
         Step::Feedback { letter, q, rec } => {
             feedback(program, Term { qubit: q, letter }, rec, at, found)
         }
@@ -170,6 +238,7 @@ fn note_line<'a, A: Allocator + Copy, L: LineStore>(
 }
 
 // Goes back over a fault: gives the line of the targets whose words it anticommutes with.
+#[inline(always)]
 fn fault<'s, 'p, 'a, A: Allocator + Copy, T: Tracker, L: LineStore>(
     program: &Program<'a, A>,
     name: FaultName,
@@ -189,6 +258,26 @@ fn fault<'s, 'p, 'a, A: Allocator + Copy, T: Tracker, L: LineStore>(
     let terms = program.entry_terms(name.entry);
     at.tracker.hit(terms, &mut found.hit)?;
     note_line(program, name.entry, found.hit.as_slice(), lines)
+}
+
+// The same where the step before was no fault. It stands apart, so that the loop over faults alone has it in line.
+#[inline(never)]
+fn lone_fault<'s, 'p, 'a, A: Allocator + Copy, T: Tracker, L: LineStore>(
+    program: &Program<'a, A>,
+    name: FaultName,
+    at: &mut Point<'p, 'a, A, T>,
+    found: &mut Found<'s, A>,
+    lines: &mut L,
+) -> Result<(), AllocError>
+    requires step { IsStepAt program.now.listing at.old.walk.place (Fault name.number) }
+    requires named { IsNamed program.now name }
+    requires store { L.program lines.old ≡ program.now }
+    requires passed { IsPassed program.now.listing (at.old.walk.place + 1)
+        (T.tracked at.old.tracker) found.old }
+    ensures { IsGoneOver T.tracked L.program L.holds program.now.listing at.old at.new found.old
+        found.new lines.old lines.new result }
+{
+    fault(program, name, at, found, lines)
 }
 
 // Goes back over a letter that is applied where a record is 1: unless the lists are settled, the targets whose words

@@ -8,7 +8,7 @@ ghost use Rattle.backward.specs.private.Stretches.{lines_between, text_between};
 ghost use Rattle.backward.specs.private.Points.{AreParts, ArePoints, IsFor, IsPointOf, IsReady, PushesSome, first_place};
 
 use crate::found::Found;
-use crate::pass::step_back;
+use crate::pass::steps_back;
 use crate::point::{KeptPoint, Point};
 use crate::points::leave_points;
 use crate::text_store::TextStore;
@@ -37,7 +37,7 @@ fn goes_on<'s, 'a, A: Allocator + Copy>(
     ask: &mut usize,
     next: &mut usize,
 ) -> bool
-    ensures on { result ≡ true → (from < place) × (from ≤ ask.new) }
+    ensures on { result ≡ true → (ask.new < place) × (from ≤ ask.new) }
     ensures off { result ≡ false → (place ≤ from) ⊎ (place < to) }
 {
     if place <= from {
@@ -86,7 +86,7 @@ fn find_back<'s, 'p, 'a, A: Allocator + Copy, T: Tracker>(
     while at.walk.place() > ask
         || goes_on(lines, found, from, to, at.walk.place(), &mut ask, &mut next)
     {
-        step_back(program, at, found, lines)?;
+        steps_back(program, ask, at, found, lines)?;
     }
     Ok(())
 }

@@ -3,6 +3,7 @@ use Rattle.std.proofs.Common.{◌≡◌, ℕ, zero, suc, inl, inr, ◌+◌, ◌-
 use Rattle.std.specs.Prelude.{slice_get}
 use Rattle.std.proofs.lemmas.Bool.{cases_lt}
 use Rattle.step_model.specs.declared.step.Term.{Term}
+use Rattle.step_model.specs.Listing.{Fault}
 use Rattle.programs.specs.declared.node.Node.{Node}
 use Rattle.programs.specs.declared.node.Node.TheVariants.{Do}
 use Rattle.programs.specs.declared.place.Place.{Place}
@@ -12,8 +13,9 @@ use Rattle.programs.specs.declared.step.TextStep.{TextStep}
 use Rattle.programs.specs.declared.step.TextStep.TheVariants as text_step
 use Rattle.programs.specs.Kept.{KeptProgram}
 use Rattle.programs.specs.Listed.{listed}
-use Rattle.programs.specs.Numbering.{counts_before, numbered_step}
-use Rattle.programs.specs.Steps.{PreviousFaults, is_fault_node, is_step, node_before}
+use Rattle.programs.specs.Named.{IsNamed}
+use Rattle.programs.specs.Numbering.{counts_before, named, numbered_step}
+use Rattle.programs.specs.Steps.{PreviousFault, PreviousFaults, StaysBehindFault, is_fault_node, is_step, node_before}
 use Rattle.programs.specs.Walks.{is_fault}
 use Rattle.programs.specs.private.WalkStates.{IsWalkOf}
 use Rattle.programs.proofs.PlaceMoves.{at_the_start, back_over_step, node_before-suc}
@@ -33,6 +35,13 @@ listed_fault n products c other = refl
 -- the counts before so many faults
 abbrev fewer : Counts → ℕ → Counts
 fewer c count = record { records = c.records; collapses = c.collapses; faults = c.faults - count }
+
+-- one fault fewer
+one_fewer : (c : Counts) (entry : ℕ) → counts_before c (text_step.Fault entry) ≡ fewer c 1
+one_fewer c entry =
+    let r : c.records - 0 ≡ c.records = omega arith in
+    let o : c.collapses - 0 ≡ c.collapses = omega arith in
+    λ i. record { records = r i; collapses = o i; faults = c.faults - 1 }
 
 module _ {A : Type 0} (program : KeptProgram) (text : Text A) where
   -- the step before a place, and whether it is a fault
@@ -112,3 +121,30 @@ module _ {A : Type 0} (program : KeptProgram) (text : Text A) where
         few = omega (arith, over.below, walk.short, (bounded (tree_of text.nodes.now) _ _ k moved).steps);
         none = λ z. no_fault new (fewer counted count) (k - count) (node_before text.nodes.now new.index) over.walk refl (omega (arith, z, some)) (went.none (omega (arith, some)) z) (λ s. went.start s z);
       }
+
+  -- one fault is gone back over
+  pub record IsOver (new : Place) (counted : Counts) (k : ℕ) (entry : ℕ) : Type 0 where
+    pub some : 0 < k
+    pub enough : 1 ≤ counted.faults
+    pub step_is : Some (Fault (counted.faults - 1)) ≡ slice_get program.listing.steps (k - 1)
+    pub named : IsNamed program (named (counted.faults - 1) entry)
+    pub walk : IsWalkOf program text new (fewer counted 1) (k - 1)
+
+  pub over_fault : (old new : Place) (counted : Counts) (k entry : ℕ) → IsWalkOf program text old counted k → PreviousFault text.nodes.now old new (Some entry) → IsOver new counted k entry
+  over_fault old new counted k entry both went =
+      let r = returns_over program text old new counted k (text_step.Fault entry) both (went k both.walk.place) in
+      record { some = r.some; enough = r.faults; step_is = r.step_is; named = r.named; walk = subst (λ (c : Counts). IsWalkOf program text new c (k - 1)) (one_fewer counted entry) r.walk }
+
+  -- or none is
+  pub record IsNotOver (new : Place) (counted : Counts) (k : ℕ) : Type 0 where
+    pub walk : IsWalkOf program text new counted k
+    pub none : 0 < k → is_fault (slice_get program.listing.steps (k - 1)) ≡ false
+
+  pub over_none : (old new : Place) (counted : Counts) (k : ℕ) → IsWalkOf program text old counted k → StaysBehindFault text.nodes.now old new → IsNotOver new counted k
+  over_none old new counted k both stays =
+      let walk = both.walk in
+      let after : IsWalkOf program text new counted k = record {
+        held = both.held;
+        walk = record { circuit = walk.circuit; short = walk.short; feedback = walk.feedback; place = stays.kept k walk.place; counts = walk.counts };
+      } in
+      record { walk = after; none = λ some. no_fault new counted k (node_before text.nodes.now new.index) after refl some stays.none stays.start }

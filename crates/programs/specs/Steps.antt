@@ -99,3 +99,14 @@ pub record PreviousFaults (nodes : List Node) (old new : Place) (most count : �
   pub each : (i : ℕ) → new.index ≤ i → i < new.index + count → is_fault_node (slice_get nodes i) ≡ true
   pub none : 0 < most → count ≡ 0 → is_fault_node (node_before nodes new.index) ≡ false
   pub start : is_step (node_before nodes new.index) ≡ false → count ≡ 0 → node_before nodes new.index ≡ None
+
+-- a move over no step, to where no fault is before
+pub record StaysBehindFault (nodes : List Node) (old new : Place) : Type 0 where
+  pub kept : KeepsStep nodes old new
+  pub none : is_fault_node (node_before nodes new.index) ≡ false
+  pub start : is_step (node_before nodes new.index) ≡ false → node_before nodes new.index ≡ None
+
+-- the entry of the fault before and a move back over it, or none where no fault is before
+abbrev pub PreviousFault : List Node → Place → Place → Option ℕ → Type 0
+PreviousFault nodes old new None = StaysBehindFault nodes old new
+PreviousFault nodes old new (Some entry) = (k : ℕ) → IsAt nodes old k → GoesBackOver nodes old new (Fault entry) k

@@ -1,7 +1,7 @@
-ghost use Rattle.std.specs.Prelude.{◌≡◌, true, ℕ, List, length, Some};
+ghost use Rattle.std.specs.Prelude.{◌≡◌, true, false, ℕ, List, length, None, Some, IfSome};
 ghost use Rattle.programs.specs.declared.kept_node.BlockSize.{BlockSize};
 ghost use Rattle.programs.specs.declared.node.Node.TheVariants.{Do};
-ghost use Rattle.programs.specs.declared.step.TextStep.TheVariants.{Collapse, CollapseWord};
+ghost use Rattle.programs.specs.declared.step.TextStep.TheVariants.{Collapse, CollapseWord, Fault};
 ghost use Rattle.programs.specs.private.KeptNodes.{node_of, recorded, flipped, NamesBlockBelow};
 ghost use Rattle.programs.specs.Steps.{is_step, is_fault_node};
 
@@ -213,6 +213,21 @@ pub(crate) fn is_fault(kept: KeptNode) -> bool
     ensures { (sizes : List BlockSize) → result ≡ is_fault_node (Some (node_of sizes kept)) }
 {
     matches!(kept, KeptNode::Fault(_))
+}
+
+/// The entry of the fault that is kept so, where one is.
+#[inline(always)]
+pub(crate) fn fault_of(kept: KeptNode) -> Option<u32>
+    ensures fault { (sizes : List BlockSize)
+        → IfSome result (λ entry. node_of sizes kept ≡ Do (Fault entry)) }
+    ensures none { (sizes : List BlockSize)
+        → result ≡ None
+        → is_fault_node (Some (node_of sizes kept)) ≡ false }
+{
+    match kept {
+        KeptNode::Fault(entry) => Some(entry),
+        _ => None,
+    }
 }
 
 /// The step that is kept so.

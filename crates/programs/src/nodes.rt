@@ -1,10 +1,13 @@
 //! The nodes of a circuit, each kept in few bytes.
-ghost use Rattle.std.specs.Prelude.{◌≡◌, ◌<◌, ◌≤◌, ◌^◌, [], ◌∷◌, ◌++◌, length, set, take, true, IfOk, OnOk, OnErr, Some, slice_get};
+ghost use Rattle.std.specs.Prelude.{◌≡◌, ◌<◌, ◌≤◌, ◌^◌, [], ◌∷◌, ◌++◌, length, set, take, true, false, IfOk, OnOk, OnErr, IfSome, None, Some, slice_get};
 ghost use Rattle.programs.specs.declared.node.Node.TheVariants.{Do, Open, Close};
+ghost use Rattle.programs.specs.declared.step.TextStep.TheVariants.{Fault};
 ghost use Rattle.programs.specs.Steps.{is_step, is_fault_node};
 ghost use Rattle.programs.specs.Walks.{PassesBack};
 
-use crate::kept_node::{BlockSize, KeptNode, is_fault, is_step, kept_step, node_of, step_of};
+use crate::kept_node::{
+    BlockSize, KeptNode, fault_of, is_fault, is_step, kept_step, node_of, step_of,
+};
 use crate::node::Node;
 use crate::step::TextStep;
 use std::alloc::{AllocError, Allocator};
@@ -81,6 +84,16 @@ impl<A: Allocator + Copy> Nodes<A> {
         ensures { result ≡ is_fault_node (slice_get self.now index) }
     {
         index < self.kept.len() && is_fault(self.kept[index])
+    }
+
+    /// The entry of the fault that stands at an index, where a step does, and where that is a fault.
+    #[inline(always)]
+    pub(crate) fn fault(&self, index: usize) -> Option<u32>
+        requires { is_step (slice_get self.now index) ≡ true }
+        ensures fault { IfSome result (λ entry. slice_get self.now index ≡ Some (Do (Fault entry))) }
+        ensures none { result ≡ None → is_fault_node (slice_get self.now index) ≡ false }
+    {
+        fault_of(self.kept[index])
     }
 
     /// Where the faults begin that stand right before an index: those from `least` on.

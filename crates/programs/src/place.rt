@@ -1,5 +1,5 @@
 ghost use Rattle.std.specs.Prelude.{◌≡◌, ◌<◌, ◌+◌, ◌^◌, length, None, IfSome, slice_get};
-ghost use Rattle.programs.specs.Steps.{StandsIn, KeepsStep, MovesTo, IsNoOpen, IsNoClose, NextStep, PreviousStep, PreviousFaults, is_step, is_fault_node, node_before};
+ghost use Rattle.programs.specs.Steps.{StandsIn, KeepsStep, MovesTo, IsNoOpen, IsNoClose, NextStep, PreviousStep, PreviousFault, PreviousFaults, is_step, is_fault_node, node_before};
 
 use crate::node::Node;
 use crate::nodes::Nodes;
@@ -188,6 +188,23 @@ pub fn previous<A: Allocator + Copy>(nodes: &Nodes<A>, place: &mut Place) -> Opt
     let step = nodes.step(place.index - 1);
     place.index -= 1;
     Some(step)
+}
+
+// Answers the entry of the fault before a place, and goes back over it.
+#[inline(always)]
+pub fn previous_fault<A: Allocator + Copy>(nodes: &Nodes<A>, place: &mut Place) -> Option<u32>
+    requires { StandsIn nodes.now place.old }
+    ensures { PreviousFault nodes.now place.old place.new result }
+{
+    if !go_back_to_step(nodes, place) {
+        return None;
+    }
+    let entry = match nodes.fault(place.index - 1) {
+        Some(entry) => entry,
+        None => return None,
+    };
+    place.index -= 1;
+    Some(entry)
 }
 
 // Goes back over the faults that stand before a place in one turn, over `most` at most, and answers how many these are.

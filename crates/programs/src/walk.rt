@@ -1,11 +1,12 @@
-ghost use Rattle.std.specs.Prelude.{◌≡◌, ◌+◌, ◌-◌, ◌<◌, ◌≤◌, ◌==◌, ℕ, true, false, if◌then◌else◌, nat_lt, length, None, IfSome, option_map, slice_get};
+ghost use Rattle.std.specs.Prelude.{◌≡◌, ◌+◌, ◌-◌, ◌<◌, ◌≤◌, ◌==◌, ℕ, true, false, if◌then◌else◌, nat_lt, length, None, Some, IfSome, option_map, slice_get};
+ghost use Rattle.step_model.specs.Listing.{Fault};
 ghost use Rattle.programs.specs.Listed.{listed};
-ghost use Rattle.programs.specs.Named.{IsStepOf};
+ghost use Rattle.programs.specs.Named.{IsNamed, IsStepOf};
 ghost use Rattle.programs.specs.Walks.{PassesBack, is_fault};
 
-use crate::place::{Place, next, previous, previous_faults};
+use crate::place::{Place, next, previous, previous_fault, previous_faults};
 use crate::program::{Program, Text};
-use crate::step::{Counts, Step, after, before, number};
+use crate::step::{Counts, FaultName, Step, after, before, number};
 use arrayvec::ArrayVec;
 use std::alloc::Allocator;
 use std::marker::Model;
@@ -133,6 +134,33 @@ impl<'a, 'p, A: Allocator + Copy> Walk<'a, 'p, A> {
         self.counts = before(self.counts, step);
         self.steps -= 1;
         Some(number(self.counts, step))
+    }
+
+    /// Answers the fault before this place and goes back over it. None where the step before is no fault, or at the start:
+    /// then no step is gone back over.
+    #[inline(always)]
+    pub fn previous_fault(&mut self) -> Option<FaultName>
+        ensures fault { IfSome result (λ name. slice_get self.old.program.listing.steps
+            (self.old.place - 1)
+            ≡ Some (Fault name.number)) }
+        ensures named { IfSome result (IsNamed self.old.program) }
+        ensures none { result ≡ None
+            → 0 < self.old.place
+            → is_fault (slice_get self.old.program.listing.steps (self.old.place - 1)) ≡ false }
+        ensures program { self.new.program ≡ self.old.program }
+        ensures back { IfSome result (λ name. self.new.place + 1 ≡ self.old.place) }
+        ensures stays { result ≡ None → self.new.place ≡ self.old.place }
+    {
+        let entry = match previous_fault(self.text.nodes, &mut self.place) {
+            Some(entry) => entry,
+            None => return None,
+        };
+        self.counts.faults -= 1;
+        self.steps -= 1;
+        Some(FaultName {
+            number: self.counts.faults,
+            entry,
+        })
     }
 
     /// Goes back over the faults that stand right before the place, to `from` at most.
