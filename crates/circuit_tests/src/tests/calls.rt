@@ -2,7 +2,6 @@
 mod arguments;
 mod batches;
 mod bits;
-mod by_hand;
 mod coin_pairs;
 mod drawn_shots;
 mod entries;

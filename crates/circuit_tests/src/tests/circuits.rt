@@ -1,4 +1,3 @@
-mod agreement;
 mod analyses;
 mod beside;
 mod destabilizers;
@@ -6,4 +5,3 @@ mod entries;
 mod parts;
 mod runs;
 mod table;
-mod three_steps;

@@ -2,7 +2,6 @@ mod analyses;
 mod growths;
 mod lent;
 mod lists;
-mod plain;
 mod quiet;
 mod runs;
 mod short_lists;

@@ -1,11 +1,9 @@
 //! Analyses as the table has them, by both trackers, and the coin pairs of its random targets.
 
-use crate::tests::differences::differences;
 use crate::tests::tables::are_coins;
 use crate::tests::words::{by_dense, by_sparse};
 use backward::Analysed;
 use frames::coin_pair;
-use plain_runs::place_of;
 use programs::Program;
 use std::alloc::{AllocError, Global};
 use step_model::{Fault, MemorySink, Place};
@@ -57,7 +55,7 @@ fn random_holds(
     (which, place): (u32, Place),
 ) -> Result<bool, Fault> {
     match coins_behind(alloc, answer, (which, place))? {
-        Some(coins) => has_pair(alloc, program, (which as usize, place), coins),
+        Some(coins) => has_pair(alloc, program, place, coins),
         None => Ok(false),
     }
 }
@@ -108,62 +106,13 @@ fn writes_model(
     }
 }
 
+/// Whether the coin lists of a place are zeros and these.
 fn has_pair(
     alloc: Global,
     program: &Program<'_, Global>,
-    (target, place): (usize, Place),
+    place: Place,
     coins: &str,
 ) -> Result<bool, Fault> {
     let (first, second) = coin_pair(alloc, program, place)?;
-    let pair = (first.as_slice(), second.as_slice());
-    pair_holds(alloc, program, (target, place), pair, coins)
-}
-
-/// Whether a pair has these coins, and tells the target apart.
-fn pair_holds(
-    alloc: Global,
-    program: &Program<'_, Global>,
-    (target, place): (usize, Place),
-    pair: (&[bool], &[bool]),
-    coins: &str,
-) -> Result<bool, Fault> {
-    if !are_coins(pair, coins) {
-        return Ok(false);
-    }
-    is_random(alloc, program, (target, place), pair)
-}
-
-/// Whether a target has this place, and different parities in the runs without faults under these coins.
-fn is_random(
-    alloc: Global,
-    program: &Program<'_, Global>,
-    (target, place): (usize, Place),
-    pair: (&[bool], &[bool]),
-) -> Result<bool, Fault> {
-    if !has_place(alloc, program, target, place)? {
-        return Ok(false);
-    }
-    differs(alloc, program, target, pair)
-}
-
-fn has_place(
-    alloc: Global,
-    program: &Program<'_, Global>,
-    target: usize,
-    place: Place,
-) -> Result<bool, AllocError> {
-    if target >= program.target_count() {
-        return Ok(false);
-    }
-    Ok(place_of(alloc, program, target)? == Some(place))
-}
-
-fn differs(
-    alloc: Global,
-    program: &Program<'_, Global>,
-    target: usize,
-    (first, second): (&[bool], &[bool]),
-) -> Result<bool, Fault> {
-    let differ = differences(alloc, program, (&[], second), first)?;
-    Ok(differ.get(target).copied() == Some(true))
+    Ok(are_coins((first.as_slice(), second.as_slice()), coins))
 }

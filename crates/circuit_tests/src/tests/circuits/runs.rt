@@ -1,4 +1,4 @@
-//! Runs as the table has them, by the tableau and straight from the definitions.
+//! Runs as the table has them.
 use crate::tests::differences::differences;
 use forward_sim::{Records, read_coins, read_numbers, run};
 use frames::digit;
@@ -54,7 +54,7 @@ fn is_as_written(
     )
 }
 
-/// Whether the run with these faults and coins is as expected, by the tableau and straight from the definitions.
+/// Whether the run with these faults and coins is as expected.
 fn is_run(
     alloc: Global,
     program: &Program<'_, Global>,
@@ -65,9 +65,6 @@ fn is_run(
         return Ok(false);
     };
     if !records_are(alloc, program, given, records)? {
-        return Ok(false);
-    }
-    if !plain_records_are(alloc, program, given, records)? {
         return Ok(false);
     }
     detections_are(alloc, program, given, detections)
@@ -91,16 +88,6 @@ fn are_written(records: &Records<Global>, digits: &str) -> bool {
         }
     }
     records.len() == digits.len()
-}
-
-fn plain_records_are(
-    alloc: Global,
-    program: &Program<'_, Global>,
-    given: (&[bool], &[bool]),
-    digits: &str,
-) -> Result<bool, Fault> {
-    let records = plain_runs::records(alloc, program, given.0, given.1)?;
-    Ok(are_digits(records.as_slice(), digits))
 }
 
 fn detections_are(

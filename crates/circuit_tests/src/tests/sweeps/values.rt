@@ -1,13 +1,11 @@
-//! Rows, words, tableaus and programs that are made by one call.
+//! Rows, words and tableaus that are made by one call.
 use super::growths::{Call, Memory, Ration, sweep, told};
 use super::lent::Lent;
 use bit_rows::BitRow;
 use pauli_word::{Letter, Word};
-use plain_runs::{Entry, Lists, Piece, program_of};
-use programs::{Recording, TextStep};
 use std::alloc::AllocError;
 use std::test::Fail;
-use step_model::{Fault, Term};
+use step_model::Fault;
 use tableau::Tableau;
 
 #[derive(Clone, Copy)]
@@ -17,16 +15,14 @@ enum Made {
     Word,
     WordCopy,
     Tableau,
-    Program,
 }
 
-const MADE: [Made; 6] = [
+const MADE: [Made; 5] = [
     Made::Row,
     Made::RowCopy,
     Made::Word,
     Made::WordCopy,
     Made::Tableau,
-    Made::Program,
 ];
 
 #[test]
@@ -42,7 +38,6 @@ impl Call for Made {
             Made::Word => word_is_right(ration.begin()),
             Made::WordCopy => word_copy_is_right(ration),
             Made::Tableau => tableau_is_right(ration.begin()),
-            Made::Program => program_is_right(ration.begin()),
         };
         told(answer)
     }
@@ -77,50 +72,4 @@ fn word_copy_is_right(ration: Ration<'_>) -> Result<bool, AllocError> {
 fn tableau_is_right(memory: Memory<'_>) -> Result<bool, AllocError> {
     let state = Tableau::start(memory, 3)?;
     Ok(state.len() == 3)
-}
-
-const LISTS: Lists<'static> = Lists {
-    entries: &[
-        Entry {
-            text: b"0.25",
-            terms: &[Term {
-                qubit: 0,
-                letter: Letter::X,
-            }],
-        },
-        Entry {
-            text: b"1",
-            terms: &[],
-        },
-    ],
-    products: &[&[Term {
-        qubit: 1,
-        letter: Letter::Z,
-    }]],
-    detectors: &[&[0, 1]],
-    observables: &[&[1]],
-    coordinates: &[&[2]],
-};
-
-/// A measurement of qubit 0 that is flipped, twice.
-const PIECES: &[Piece] = &[
-    Piece::Open(2),
-    Piece::Do(TextStep::Fault(0)),
-    Piece::Do(TextStep::Collapse {
-        letter: Letter::Z,
-        qubit: 0,
-        reset: true,
-        recording: Some(Recording {
-            inverted: false,
-            flip: Some(1),
-        }),
-    }),
-    Piece::Close,
-];
-
-fn program_is_right(memory: Memory<'_>) -> Result<bool, AllocError> {
-    match program_of(memory, 2, PIECES, LISTS)? {
-        Some(program) => Ok(program.record_count() == 2 && program.fault_count() == 4),
-        None => Ok(false),
-    }
 }
