@@ -1,7 +1,4 @@
 mod analyses;
-mod beside;
 mod destabilizers;
 mod entries;
 mod parts;
-mod runs;
-mod table;

@@ -1,12 +1,11 @@
-//! An identity word for each target of a program, by both trackers, and what each tracker finds.
+//! An identity word for each target of a program, by both trackers.
 ghost use Rattle.std.specs.Prelude.{◌≡◌, length, IfOk};
 ghost use Rattle.step_model.specs.Targets.{targets_of};
 ghost use Rattle.trackers.specs.Tracked.{fresh};
 
-use backward::{Analysed, DenseWords, QubitSets, analyse};
+use backward::{DenseWords, QubitSets};
 use programs::Program;
-use std::alloc::{AllocError, Allocator, Global};
-use step_model::Fault;
+use std::alloc::{AllocError, Allocator};
 
 pub(super) fn dense_words<A: Allocator + Copy>(
     alloc: A,
@@ -28,26 +27,4 @@ pub(super) fn sparse_words<'s, A: Allocator + Copy>(
 {
     program.well_formed();
     QubitSets::new(alloc, program.qubits() as usize, program.target_count())
-}
-
-/// The analysis by rows of bits.
-pub(super) fn by_dense<'p>(
-    alloc: Global,
-    program: &Program<'p, Global>,
-) -> Result<Analysed<'p, Global>, Fault> {
-    match dense_words(alloc, program) {
-        Ok(words) => analyse(alloc, program, words),
-        Err(_) => Err(Fault::MEMORY),
-    }
-}
-
-/// The analysis by lists of targets.
-pub(super) fn by_sparse<'p>(
-    alloc: &Global,
-    program: &Program<'p, Global>,
-) -> Result<Analysed<'p, Global>, Fault> {
-    match sparse_words(alloc, program) {
-        Ok(words) => analyse(*alloc, program, words),
-        Err(_) => Err(Fault::MEMORY),
-    }
 }

@@ -1,118 +1,125 @@
-//! Analyses as the table has them, by both trackers, and the coin pairs of its random targets.
+//! Circuits worked by hand, whose error models are written in parts of several sizes, by both trackers.
+mod rows;
 
-use crate::tests::tables::are_coins;
-use crate::tests::words::{by_dense, by_sparse};
-use backward::Analysed;
-use frames::coin_pair;
+use crate::tests::words::{dense_words, sparse_words};
+use backward::write_in_parts;
 use programs::Program;
+use rows::ROWS;
 use std::alloc::{AllocError, Global};
 use step_model::{Fault, MemorySink, Place};
 use test_support::text_of;
+use unroll::read_program;
 
-/// Whether each tracker gives this answer.
-pub(super) fn answers_hold(
+/// How much text of error lines is held at once: none, so that each step with a line is a cut; a line or two; a few; and all.
+const ROOMS: [usize; 4] = [0, 30, 100, 10_000];
+
+/// The lowest random target with its place, where there is one.
+type Random = Option<(u32, Place)>;
+
+/// The analysis by lists of targets.
+fn write_by_sparse(
     alloc: Global,
-    answer: &str,
     program: &Program<'_, Global>,
-) -> Result<bool, Fault> {
-    if !dense_holds(alloc, answer, program)? {
-        return Ok(false);
+    room: usize,
+    sink: &mut MemorySink<Global>,
+) -> Result<Random, Fault> {
+    match sparse_words(&alloc, program) {
+        Ok(words) => write_in_parts(alloc, program, words, room, sink),
+        Err(_) => Err(Fault::MEMORY),
     }
-    sparse_holds(&alloc, answer, program)
 }
 
-fn dense_holds(alloc: Global, answer: &str, program: &Program<'_, Global>) -> Result<bool, Fault> {
-    let analysed = by_dense(alloc, program)?;
-    answer_holds(alloc, answer, program, &analysed)
+/// The analysis by rows of bits.
+fn write_by_dense(
+    alloc: Global,
+    program: &Program<'_, Global>,
+    room: usize,
+    sink: &mut MemorySink<Global>,
+) -> Result<Random, Fault> {
+    match dense_words(alloc, program) {
+        Ok(words) => write_in_parts(alloc, program, words, room, sink),
+        Err(_) => Err(Fault::MEMORY),
+    }
 }
 
 fn sparse_holds(
-    alloc: &Global,
-    answer: &str,
-    program: &Program<'_, Global>,
-) -> Result<bool, Fault> {
-    let analysed = by_sparse(alloc, program)?;
-    answer_holds(*alloc, answer, program, &analysed)
-}
-
-fn answer_holds(
     alloc: Global,
-    answer: &str,
     program: &Program<'_, Global>,
-    analysed: &Analysed<'_, Global>,
-) -> Result<bool, Fault> {
-    match analysed {
-        Analysed::Model(_) => is_model(alloc, analysed, answer),
-        Analysed::Random { which, place } => random_holds(alloc, answer, program, (*which, *place)),
-    }
-}
-
-/// Whether an answer names this target and its place, and the coins of the pair.
-fn random_holds(
-    alloc: Global,
+    room: usize,
     answer: &str,
-    program: &Program<'_, Global>,
-    (which, place): (u32, Place),
 ) -> Result<bool, Fault> {
-    match coins_behind(alloc, answer, (which, place))? {
-        Some(coins) => has_pair(alloc, program, place, coins),
-        None => Ok(false),
-    }
-}
-
-/// What stands behind a target and its place.
-fn coins_behind<'a>(
-    alloc: Global,
-    answer: &'a str,
-    (which, place): (u32, Place),
-) -> Result<Option<&'a str>, AllocError> {
-    let words = named(alloc, which, place)?;
-    Ok(answer.strip_prefix(words.as_str()))
-}
-
-/// How an answer names a target and its place.
-fn named(alloc: Global, which: u32, place: Place) -> Result<String, AllocError> {
-    match place {
-        Place::Start(qubit) => format!(in alloc; "random {which} start {qubit} "),
-        Place::After(collapse) => format!(in alloc; "random {which} after {collapse} "),
-    }
-}
-
-/// Whether the answer is the model of this text.
-fn is_model(alloc: Global, analysed: &Analysed<'_, Global>, expected: &str) -> Result<bool, Fault> {
     let mut sink = MemorySink::new(alloc);
-    if !writes_model(analysed, &mut sink)? {
-        return Ok(false);
-    }
-    Ok(is_text(alloc, sink.bytes(), expected)?)
+    let random = write_by_sparse(alloc, program, room, &mut sink)?;
+    Ok(is_answer(alloc, random, sink.bytes(), answer)?)
 }
 
-fn is_text(alloc: Global, written: &[u8], expected: &str) -> Result<bool, AllocError> {
-    let text = text_of(alloc, expected)?;
-    Ok(written == text.as_slice())
-}
-
-/// Writes the model, where the answer is one.
-fn writes_model(
-    analysed: &Analysed<'_, Global>,
-    sink: &mut MemorySink<Global>,
-) -> Result<bool, Fault> {
-    match analysed {
-        Analysed::Model(model) => {
-            error_models::write(model, sink)?;
-            Ok(true)
-        }
-        Analysed::Random { .. } => Ok(false),
-    }
-}
-
-/// Whether the coin lists of a place are zeros and these.
-fn has_pair(
+fn dense_holds(
     alloc: Global,
     program: &Program<'_, Global>,
-    place: Place,
-    coins: &str,
+    room: usize,
+    answer: &str,
 ) -> Result<bool, Fault> {
-    let (first, second) = coin_pair(alloc, program, place)?;
-    Ok(are_coins((first.as_slice(), second.as_slice()), coins))
+    let mut sink = MemorySink::new(alloc);
+    let random = write_by_dense(alloc, program, room, &mut sink)?;
+    Ok(is_answer(alloc, random, sink.bytes(), answer)?)
+}
+
+/// Whether this text is the answer; or nothing is written, and this target is named with its place.
+fn is_answer(
+    alloc: Global,
+    random: Random,
+    written: &[u8],
+    answer: &str,
+) -> Result<bool, AllocError> {
+    match random {
+        None => {
+            let text = text_of(alloc, answer)?;
+            Ok(written == text.as_slice())
+        }
+        Some((which, place)) => {
+            let named = name_of(alloc, which, place)?;
+            Ok(written.is_empty() && named.as_str() == answer)
+        }
+    }
+}
+
+/// How a row names a target and its place.
+fn name_of(alloc: Global, which: u32, place: Place) -> Result<String, AllocError> {
+    match place {
+        Place::Start(qubit) => format!(in alloc; "random {which} start {qubit}"),
+        Place::After(collapse) => format!(in alloc; "random {which} after {collapse}"),
+    }
+}
+
+fn all_hold(alloc: Global, program: &Program<'_, Global>, answer: &str) -> Result<bool, Fault> {
+    for room in ROOMS {
+        if !sparse_holds(alloc, program, room, answer)? {
+            return Ok(false);
+        }
+        if !dense_holds(alloc, program, room, answer)? {
+            return Ok(false);
+        }
+    }
+    Ok(true)
+}
+
+fn text_holds(alloc: Global, text: &[u8], answer: &str) -> Result<bool, Fault> {
+    let program = read_program(alloc, text)?;
+    all_hold(alloc, &program, answer)
+}
+
+fn row_holds(alloc: Global, row: &str) -> Result<bool, Fault> {
+    let Some((circuit, answer)) = row.split_once(" = ") else {
+        return Ok(false);
+    };
+    let text = text_of(alloc, circuit)?;
+    text_holds(alloc, text.as_slice(), answer)
+}
+
+#[test]
+fn circuits_of_the_table(rt: HostRuntime) {
+    for row in ROWS.lines() {
+        assert!(rt; matches!(row_holds(rt.alloc(), row), Ok(true)), "{row}");
+    }
+    assert!(rt; ROWS.lines().count() == 25);
 }
