@@ -1,2 +1,1 @@
 mod sweeps;
-mod worked;
