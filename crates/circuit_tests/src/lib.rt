@@ -1,6 +1,6 @@
-//! Tests of the libraries, and what no clause of theirs says. The crate has nothing but tests: `calls` has single public calls,
-//! on rows worked by hand, `circuits` has circuits that were worked by hand or are made in code, and `sweeps` each call that takes
-//! memory with each of its growths refused in turn, of which docs/TESTING.md tells.
+//! Tests of the libraries: what no clause of theirs says. The crate has nothing but tests: `calls` has ends over devices that fail
+//! and the texts of causes, `circuits` has circuits that were worked by hand, and `sweeps` each call that no order of `serve` makes,
+//! with each of its growths refused in turn. docs/TESTING.md tells of them.
 #![tactic(auto)]
 
 #[cfg(test)]

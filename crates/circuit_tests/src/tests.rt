@@ -1,5 +1,4 @@
 mod calls;
 mod circuits;
 mod sweeps;
-mod tables;
 mod words;

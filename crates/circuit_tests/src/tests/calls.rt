@@ -1,19 +1,3 @@
-//! Single public calls of the libraries, each on rows worked by hand: what no clause of theirs says.
-mod arguments;
-mod batches;
-mod bits;
-mod coin_pairs;
-mod drawn_shots;
-mod entries;
+//! Single public calls of the libraries: what no clause of theirs says.
 mod faults;
-mod gates;
-mod last_probabilities;
-mod lines;
-mod lists;
-mod long_streams;
-mod numbers;
-mod read_models;
 mod reader_ends;
-mod texts;
-mod walks;
-mod words;

@@ -1,4 +1,3 @@
 mod analyses;
-mod destabilizers;
 mod entries;
 mod parts;

@@ -1,9 +1,4 @@
-mod analyses;
+mod calls;
 mod growths;
 mod lent;
-mod lists;
-mod quiet;
-mod runs;
-mod short_lists;
-mod texts;
-mod values;
+mod long;

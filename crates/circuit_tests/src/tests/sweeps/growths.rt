@@ -34,11 +34,6 @@ impl<'m> Ration<'m> {
 pub(super) trait Call: Copy {
     /// Whether the call answers as it should, and what it is lent to change is as it was where it is refused.
     fn is_right<'m>(self, ration: Ration<'m>, lent: &Lent<'_, 'm>) -> Result<bool, Fault>;
-
-    /// How many growths the call does without, where they are refused.
-    fn spared(self) -> u64 {
-        0
-    }
 }
 
 /// The same with want of memory as a fault.
@@ -54,8 +49,6 @@ pub(super) fn told(answer: Result<bool, AllocError>) -> Result<bool, Fault> {
 enum Outcome {
     /// The call is right, and didn't come to that growth.
     Unrefused,
-    /// The call is right, and did without that growth.
-    Spared,
     /// The call answers want of memory.
     Wanted,
     Wrong,
@@ -63,8 +56,7 @@ enum Outcome {
 
 fn outcome_of(answer: Result<bool, Fault>, refused: bool) -> Outcome {
     match answer {
-        Ok(true) if refused => Outcome::Spared,
-        Ok(true) => Outcome::Unrefused,
+        Ok(true) if !refused => Outcome::Unrefused,
         Err(fault) if refused && is_want(fault) => Outcome::Wanted,
         _ => Outcome::Wrong,
     }
@@ -89,16 +81,14 @@ fn call_refused<'m, C: Call>(ration: Ration<'m>, lent: &Lent<'_, 'm>, call: C) -
     }
 }
 
-/// How many growths a call takes, each of which is refused in turn, and how many of them it did without. The call's number says
-/// which of its table it is.
+/// How many growths a call takes, each of which is refused in turn. The call's number says which of its table it is.
 fn growths_of<'m, C: Call>(
     rt: &impl Abort,
     alloc: Global,
     memory: Memory<'m>,
     lent: &Lent<'_, 'm>,
     (number, call): (usize, C),
-) -> (u64, u64) {
-    let mut spared = 0u64;
+) -> u64 {
     for growth in 1..MOST {
         let ration = Ration {
             alloc,
@@ -110,30 +100,26 @@ fn growths_of<'m, C: Call>(
             outcome != Outcome::Wrong,
             "growth {growth} of call {number}"
         );
-        match outcome {
-            Outcome::Unrefused => return (growth - 1, spared),
-            Outcome::Spared => spared = spared.saturating_add(1),
-            Outcome::Wanted | Outcome::Wrong => {}
+        if outcome == Outcome::Unrefused {
+            return growth - 1;
         }
     }
-    (MOST, spared)
+    MOST
 }
 
-/// Refuses each growth of each of these calls once. They take some, or none.
+/// Refuses each growth of each of these calls once. They take some.
 fn sweep_lent<'m, C: Call>(
     rt: &impl Abort,
     alloc: Global,
     memory: Memory<'m>,
     lent: &Lent<'_, 'm>,
     calls: &[C],
-    some: bool,
 ) {
     for (number, call) in calls.iter().enumerate() {
-        let (growths, spared) = growths_of(rt, alloc, memory, lent, (number, *call));
-        let as_many = (0 < growths) == some && growths < MOST && spared == call.spared();
+        let growths = growths_of(rt, alloc, memory, lent, (number, *call));
         assert!(rt;
-            as_many,
-            "call {number}: {growths} growths, {spared} spared"
+            0 < growths && growths < MOST,
+            "call {number}: {growths} growths"
         );
     }
 }
@@ -145,14 +131,13 @@ fn sweep_with_model<'m, C: Call>(
     memory: Memory<'m>,
     program: &Program<'static, Memory<'m>>,
     calls: &[C],
-    some: bool,
 ) -> Result<(), Fault> {
     let model = dem_text::read(memory, MODEL.as_bytes())?;
     let lent = Lent {
         program,
         model: &model,
     };
-    sweep_lent(rt, alloc, memory, &lent, calls, some);
+    sweep_lent(rt, alloc, memory, &lent, calls);
     Ok(())
 }
 
@@ -161,21 +146,15 @@ fn sweep_with_program<'m, C: Call>(
     alloc: Global,
     memory: Memory<'m>,
     calls: &[C],
-    some: bool,
 ) -> Result<(), Fault> {
     let program = read_program(memory, CIRCUIT.as_bytes())?;
-    sweep_with_model(rt, alloc, memory, &program, calls, some)
+    sweep_with_model(rt, alloc, memory, &program, calls)
 }
 
 /// Refuses each growth of each of these calls once, in memory that holds nothing afterwards.
-pub(super) fn sweep<C: Call>(
-    rt: &impl Abort,
-    alloc: Global,
-    calls: &[C],
-    some: bool,
-) -> Result<(), Fail> {
+pub(super) fn sweep<C: Call>(rt: &impl Abort, alloc: Global, calls: &[C]) -> Result<(), Fail> {
     let memory = Scarce::new(alloc);
-    sweep_with_program(rt, alloc, &memory, calls, some)?;
+    sweep_with_program(rt, alloc, &memory, calls)?;
     assert!(rt; memory.held() == 0);
     Ok(())
 }

@@ -237,9 +237,10 @@ logical_observable L1
         status: Status::Random,
         spared: 0,
     },
+    // A line with a number of 2^16 or more is kept apart from the others.
     Row {
         order: Order::Analyze,
-        text: "M 0\nREPEAT 2 {\n    DETECTOR rec[-2]\n}\n",
+        text: "M 0\nREPEAT 2 {\n    DETECTOR rec[-1] rec[-65536]\n}\n",
         output: "refused 22 line 3\n",
         times: 1,
         status: Status::Refused,
