@@ -1,6 +1,6 @@
 //! Calls that no order of `serve` makes, or not in this way: each growth of theirs is refused.
-use super::growths::{Call, Memory, Ration, sweep};
-use super::lent::{Lent, MODEL, are_false, identity_of};
+use super::growths::{Memory, Ration};
+use super::lent::{MODEL, are_false, identity_of};
 use super::long::{lines_are_right, source_is_right};
 use crate::tests::words::{dense_words, sparse_words};
 use backward::{Analysed, analyse, write_in_parts};
@@ -12,11 +12,10 @@ use rand_core::SeedableRng;
 use rand_core::utils::NextWord;
 use rand_pcg::Pcg64;
 use std::alloc::Global;
-use std::test::Fail;
 use step_model::{Fault, MemorySink, Place};
 
 #[derive(Clone, Copy)]
-enum Asked {
+pub(super) enum Asked {
     Dense,
     Parts,
     Flips,
@@ -29,7 +28,7 @@ enum Asked {
     Source,
 }
 
-const ASKED: [Asked; 10] = [
+pub(super) const ASKED: [Asked; 10] = [
     Asked::Dense,
     Asked::Parts,
     Asked::Flips,
@@ -42,14 +41,13 @@ const ASKED: [Asked; 10] = [
     Asked::Source,
 ];
 
-#[test]
-fn every_growth_is_refused_once(rt: HostRuntime) -> Result<(), Fail> {
-    sweep(&rt, rt.alloc(), &ASKED)
-}
-
-impl Call for Asked {
-    fn is_right<'m>(self, ration: Ration<'m>, lent: &Lent<'_, 'm>) -> Result<bool, Fault> {
-        let program = lent.program;
+impl Asked {
+    /// Whether the call answers as it should, and what it is lent to change is as it was where it is refused.
+    pub fn is_right<'m>(
+        self,
+        ration: Ration<'m>,
+        program: &Program<'static, Memory<'m>>,
+    ) -> Result<bool, Fault> {
         match self {
             Asked::Dense => dense_is_right(ration, program),
             Asked::Parts => parts_are_right(ration, program),
@@ -58,7 +56,7 @@ impl Call for Asked {
             Asked::BatchAlong => batch_along_is_right(ration.begin(), program),
             Asked::Draw => draw_is_right(ration.begin(), program),
             Asked::Model => model_is_right(ration),
-            Asked::Symptom => symptom_is_right(ration.begin(), lent),
+            Asked::Symptom => symptom_is_right(ration),
             Asked::Lines => lines_are_right(ration),
             Asked::Source => source_is_right(ration),
         }
@@ -216,8 +214,13 @@ fn model_is_right(ration: Ration<'_>) -> Result<bool, Fault> {
     is_model_text(&model, ration.alloc)
 }
 
-/// Of the first two lines.
-fn symptom_is_right<'m>(memory: Memory<'m>, lent: &Lent<'_, 'm>) -> Result<bool, Fault> {
-    let bits = dem_text::symptom(memory, lent.model, &[true, true])?;
+fn has_symptom<'m>(memory: Memory<'m>, model: &Model<'_, Memory<'m>>) -> Result<bool, Fault> {
+    let bits = dem_text::symptom(memory, model, &[true, true])?;
     Ok(bits.as_slice() == [true, true, true, false, false, true, false].as_slice())
+}
+
+/// Of the first two lines.
+fn symptom_is_right(ration: Ration<'_>) -> Result<bool, Fault> {
+    let model = dem_text::read(ration.memory, MODEL.as_bytes())?;
+    has_symptom(ration.begin(), &model)
 }

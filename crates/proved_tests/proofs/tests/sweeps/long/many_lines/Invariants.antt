@@ -1,5 +1,5 @@
 use Rattle.std.proofs.Common.{◌≡◌, ◌<◌, length}
-use Rattle.circuit_tests.proofs.tests.sweeps.long.many_lines.Given as goal
+use Rattle.proved_tests.proofs.tests.sweeps.long.many_lines.Given as goal
 
 -- the text is kept, and there are three targets
 abbrev pub invariant-loop-turn : goal.invariant-loop-turn

@@ -1,4 +1,5 @@
 mod calls;
 mod circuits;
+mod orders;
 mod sweeps;
 mod words;

@@ -2,7 +2,6 @@
 ghost use Rattle.std.specs.Prelude.{◌≡◌, length, IfOk};
 
 use super::growths::Memory;
-use error_models::Model;
 use pauli_word::Word;
 use programs::Program;
 use std::alloc::AllocError;
@@ -46,13 +45,6 @@ repeat 3 {
     }
 }
 ";
-
-/// A program and an error model.
-#[derive(Clone, Copy)]
-pub(super) struct Lent<'l, 'm> {
-    pub program: &'l Program<'static, Memory<'m>>,
-    pub model: &'l Model<'static, Memory<'m>>,
-}
 
 /// The identity on a program's qubits.
 pub(super) fn identity_of<'m>(
