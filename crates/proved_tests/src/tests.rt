@@ -2,4 +2,5 @@ mod calls;
 mod circuits;
 mod orders;
 mod sweeps;
+mod tables;
 mod words;

@@ -1,4 +1,5 @@
 mod devices;
 mod memory;
 mod rows;
+mod worked;
 mod writers;

@@ -1,0 +1,212 @@
+//! The walk over small circuits, step by step against lists that were written out by hand.
+use crate::tests::tables::parts_of;
+use gate_table::Gate;
+use pauli_word::Letter;
+use programs::{FaultName, Program, Step, Walk};
+use std::alloc::{AllocError, Global};
+use std::test::Fail;
+use step_model::Fault;
+use test_support::text_of;
+use unroll::read_program;
+
+/// A row a circuit: its lines, how many records and how many faults it has, and its steps.
+///
+/// `X` and `C` are the gates X and CX, and `R` is a reset. `M`, `P` and `N` are measurements of Z, of a product and of one that
+/// is inverted, each with its record and, where it may be flipped, the fault and its entry. `F` is a fault with its entry, and
+/// `B` is feedback of a record. `-` stands for no step.
+const ROWS: &str = "\
+REPEAT 2 { | REPEAT 2 { | X 0 | M 0 | } | X 0 | } = 40 = X M0 X M1 X X M2 X M3 X
+REPEAT 1 { | M 0 | } = 10 = M0
+REPEAT 2 { | M 0 | } | REPEAT 3 { | X 0 | } = 20 = M0 M1 X X X
+REPEAT 2 { | X 0 | } | M 0 | REPEAT 2 { | X 0 | } = 10 = X X M0 X X
+# no step = 00 = -
+REPEAT 64000000 { | } = 00 = -
+REPEAT 2 { | REPEAT 1000000 { | REPEAT 7 { | } | } | M 0 | REPEAT 9 { | } | } = 20 = M0 M1
+# a fault's number, and its entry, at each turn of the inner block | REPEAT 2 { | M(0.5) 0 | REPEAT 2 { | X_ERROR(1) 0 | } | } \
+= 26 = M000 F11 F21 M130 F41 F51
+# the second turn's feedback is by the record of the first | M 0 | REPEAT 2 { | M 0 | CX rec[-2] 0 | } = 30 = M0 M1 B0 M2 B1
+REPEAT 2 { | MPP !X0*Z1 | } = 20 = N0 N1
+# in a block's first turn the last record is of the turn before of the block around it | M 0 | REPEAT 2 { | REPEAT 2 { | \
+CX rec[-1] 0 | M 0 | } | } = 50 = M0 B0 M1 B1 M2 B2 M3 B3 M4
+# a reset has no record; the fault behind the product has the number after its flip's | REPEAT 2 { | R 0 | CX 0 1 | \
+MPP(0.25) X0*Z1 | X_ERROR(1) 0 | } = 24 = R C P000 F11 R C P120 F31
+";
+
+fn digit(word: &[u8], at: usize) -> Option<u32> {
+    match word.get(at).copied() {
+        Some(byte) if byte.is_ascii_digit() => Some(byte as u32 - 48),
+        _ => None,
+    }
+}
+
+/// A fault with its entry, from this place of a word on.
+fn fault_name(word: &[u8], at: usize) -> Option<FaultName> {
+    let number = digit(word, at)?;
+    let entry = digit(word, at.saturating_add(1))?;
+    Some(FaultName { number, entry })
+}
+
+fn collapse(rec: Option<u32>, flip: Option<FaultName>) -> Step {
+    Step::Collapse {
+        letter: Letter::Z,
+        qubit: 0,
+        rec,
+        reset: rec.is_none(),
+        inverted: false,
+        flip,
+    }
+}
+
+fn product(rec: Option<u32>, inverted: bool, flip: Option<FaultName>) -> Step {
+    Step::CollapseWord {
+        product: 0,
+        rec,
+        inverted,
+        flip,
+    }
+}
+
+/// The step that a word names.
+fn step_of(word: &[u8]) -> Option<Step> {
+    let (rec, flip) = (digit(word, 1), fault_name(word, 2));
+    Some(match word.first().copied()? {
+        b'X' => Step::One {
+            gate: Gate::X,
+            q: 0,
+        },
+        b'C' => Step::Two {
+            gate: Gate::CX,
+            a: 0,
+            b: 1,
+        },
+        b'R' | b'M' => collapse(rec, flip),
+        b'P' => product(rec, false, flip),
+        b'N' => product(rec, true, flip),
+        b'F' => Step::Fault(fault_name(word, 1)?),
+        b'B' => Step::Feedback {
+            letter: Letter::X,
+            q: 0,
+            rec: rec?,
+        },
+        _ => return None,
+    })
+}
+
+/// The steps that the words of a text name.
+fn steps_of(alloc: Global, words: &str) -> Result<Vec<Step>, AllocError> {
+    let mut steps = Vec::new(alloc);
+    for word in words.split_whitespace() {
+        if let Some(step) = step_of(word.as_bytes()) {
+            steps.push(step)?;
+        }
+    }
+    Ok(steps)
+}
+
+fn goes_forth(walk: &mut Walk<'_, '_, Global>, step: &Step) -> bool {
+    walk.next_step() == Some(*step)
+}
+
+fn goes_back(walk: &mut Walk<'_, '_, Global>, step: &Step) -> bool {
+    walk.previous_step() == Some(*step)
+}
+
+// Goes over each step forth, back and forth again, and then back to the start.
+fn walks_over(program: &Program<'_, Global>, steps: &[Step]) -> bool {
+    let mut walk = Walk::start(program);
+    let mut all = true;
+    for step in steps {
+        all &= goes_forth(&mut walk, step);
+        all &= goes_back(&mut walk, step);
+        all &= goes_forth(&mut walk, step);
+    }
+    all &= walk.next_step().is_none();
+    for step in steps.iter().rev() {
+        all &= goes_back(&mut walk, step);
+    }
+    all & walk.previous_step().is_none()
+}
+
+// The same from the end.
+fn walks_back_over(program: &Program<'_, Global>, steps: &[Step]) -> bool {
+    let mut walk = Walk::end(program);
+    let mut all = walk.next_step().is_none();
+    for step in steps.iter().rev() {
+        all &= goes_back(&mut walk, step);
+        all &= goes_forth(&mut walk, step);
+        all &= goes_back(&mut walk, step);
+    }
+    all &= walk.previous_step().is_none();
+    for step in steps {
+        all &= goes_forth(&mut walk, step);
+    }
+    all & walk.next_step().is_none()
+}
+
+/// Whether a program has as many records and faults as these two digits say, and the steps.
+fn is_of_row(program: &Program<'_, Global>, counts: &str, steps: &[Step]) -> bool {
+    (Some(program.record_count()) == digit(counts.as_bytes(), 0))
+        & (Some(program.fault_count()) == digit(counts.as_bytes(), 1))
+        & walks_over(program, steps)
+        & walks_back_over(program, steps)
+}
+
+fn program_holds(
+    alloc: Global,
+    program: &Program<'_, Global>,
+    (counts, words): (&str, &str),
+) -> Result<bool, AllocError> {
+    let steps = steps_of(alloc, words)?;
+    Ok(is_of_row(program, counts, steps.as_slice()))
+}
+
+fn text_holds(alloc: Global, text: &[u8], told: (&str, &str)) -> Result<bool, Fault> {
+    let program = read_program(alloc, text)?;
+    Ok(program_holds(alloc, &program, told)?)
+}
+
+/// Whether a circuit, of which `|` ends each line, has these counts and steps.
+fn circuit_holds(alloc: Global, circuit: &str, told: (&str, &str)) -> Result<bool, Fault> {
+    let text = text_of(alloc, circuit)?;
+    text_holds(alloc, text.as_slice(), told)
+}
+
+fn row_holds(alloc: Global, row: &str) -> Result<bool, Fault> {
+    match parts_of(row) {
+        Some((circuit, counts, words)) => circuit_holds(alloc, circuit, (counts, words)),
+        None => Ok(false),
+    }
+}
+
+#[test]
+fn rows_of_the_table(rt: HostRuntime) {
+    for row in ROWS.lines() {
+        assert!(rt; matches!(row_holds(rt.alloc(), row), Ok(true)), "{row}");
+    }
+    assert!(rt; ROWS.lines().count() == 12);
+}
+
+/// A measurement in three blocks of two turns inside 29 of one.
+fn nested(alloc: Global) -> Result<String, AllocError> {
+    let mut text = String::new(alloc);
+    for level in 0..32 {
+        text.push_str(if level < 29 {
+            "REPEAT 1 {|"
+        } else {
+            "REPEAT 2 {|"
+        })?;
+    }
+    text.push_str("M 0|")?;
+    for _ in 0..32 {
+        text.push_str("}|")?;
+    }
+    Ok(text)
+}
+
+#[test]
+fn blocks_of_thirty_two_levels(rt: HostRuntime) -> Result<(), Fail> {
+    let circuit = nested(rt.alloc())?;
+    let told = ("80", "M0 M1 M2 M3 M4 M5 M6 M7");
+    assert!(rt; circuit_holds(rt.alloc(), circuit.as_str(), told)?);
+    Ok(())
+}
