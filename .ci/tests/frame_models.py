@@ -15,15 +15,19 @@ class Frames:
         self.records = []
         self.chances = []
 
+    def put(self, letter, qubit, faults):
+        """These faults put a letter there."""
+        if letter in "XY":
+            self.x[qubit] = self.x.get(qubit, 0) ^ faults
+        if letter in "ZY":
+            self.z[qubit] = self.z.get(qubit, 0) ^ faults
+
     def add_fault(self, chance, letters):
         """A fault that happens here: `letters` are (letter, qubit) pairs."""
         bit = 1 << len(self.chances)
         self.chances.append(chance)
         for letter, qubit in letters:
-            if letter in "XY":
-                self.x[qubit] = self.x.get(qubit, 0) ^ bit
-            if letter in "ZY":
-                self.z[qubit] = self.z.get(qubit, 0) ^ bit
+            self.put(letter, qubit, bit)
         return bit
 
     def flips_of(self, letter, qubit):
@@ -72,11 +76,21 @@ def step(frames, name, arguments, targets):
     else:
         size = len(IMAGES[ALIASES.get(name, name)].split()) // 2
         for at in range(0, len(targets), size):
-            frames.apply_gate(name, [int(target) for target in targets[at:at + size]])
+            apply(frames, name, targets[at:at + size])
 
 
-def write_model(text):
-    """The model as `analyze` writes it. Feedback isn't followed."""
+def apply(frames, name, targets):
+    """A gate; or its second letter, of CX, CY and CZ, where a record is 1: a fault that flips the record puts it there."""
+    records = [target for target in targets if target.startswith("rec")]
+    qubits = [int(target) for target in targets if target not in records]
+    if records:
+        frames.put(ALIASES.get(name, name)[1], qubits[0], frames.records[int(records[0][4:-1])])
+    else:
+        frames.apply_gate(name, qubits)
+
+
+def follow_faults(text):
+    """Each fault as its probability with the names of the targets that it flips; and the lines that declare the targets."""
     frames, detectors, places, observables, offset = Frames(), [], [], {}, []
     for name, arguments, targets in read_instructions(text):
         flips = 0
@@ -94,12 +108,15 @@ def write_model(text):
             offset = [old + int(new) for old, new in zip(offset, arguments + ["0"] * len(offset))]
         elif name not in ("TICK", "QUBIT_COORDS"):
             step(frames, name, arguments, targets)
-    flips_of = [("D", k, flips) for k, flips in enumerate(detectors)]
-    flips_of += [("L", k, observables.get(k, 0)) for k in range(max(observables, default=-1) + 1)]
-    lines = []
-    for k, chance in enumerate(frames.chances):
-        hit = [f"{kind}{number}" for kind, number, flips in flips_of if flips >> k & 1]
-        if hit:
-            lines.append(f"error({chance}) {' '.join(hit)}")
-    lines += [f"detector{'(' + ', '.join(map(str, place)) + ')' if place else ''} D{k}" for k, place in enumerate(places)]
-    return "\n".join(lines + [f"logical_observable L{k}" for kind, k, _ in flips_of if kind == "L"]) + "\n"
+    flips_of = [(f"D{k}", flips) for k, flips in enumerate(detectors)]
+    flips_of += [(f"L{k}", observables.get(k, 0)) for k in range(max(observables, default=-1) + 1)]
+    faults = [(chance, [name for name, flips in flips_of if flips >> k & 1]) for k, chance in enumerate(frames.chances)]
+    lines = [f"detector{'(' + ', '.join(map(str, place)) + ')' if place else ''} D{k}" for k, place in enumerate(places)]
+    return faults, lines + [f"logical_observable {name}" for name, _ in flips_of[len(detectors):]]
+
+
+def write_model(text):
+    """The model as `analyze` writes it."""
+    faults, declarations = follow_faults(text)
+    lines = [f"error({chance}) {' '.join(names)}" for chance, names in faults if names]
+    return "\n".join(lines + declarations) + "\n"

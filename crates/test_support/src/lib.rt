@@ -11,7 +11,7 @@ mod slow_sink;
 mod slow_source;
 
 pub use device::{Device, Event, Plan};
-pub use rows::{are_digits, text_of};
+pub use rows::text_of;
 pub use scarce::Scarce;
 pub use slow_sink::SlowSink;
 pub use slow_source::SlowSource;

@@ -11,15 +11,3 @@ pub fn text_of(alloc: Global, lines: &str) -> Result<Vec<u8>, AllocError> {
     }
     Ok(text)
 }
-
-/// Whether these truth values are written as these digits.
-pub fn are_digits(values: &[bool], digits: &str) -> bool {
-    let digits = digits.as_bytes();
-    for (number, value) in values.iter().enumerate() {
-        let digit = if *value { b'1' } else { b'0' };
-        if digits.get(number).copied() != Some(digit) {
-            return false;
-        }
-    }
-    values.len() == digits.len()
-}

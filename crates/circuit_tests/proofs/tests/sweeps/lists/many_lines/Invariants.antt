@@ -1,6 +1,0 @@
-use Rattle.std.proofs.Common.{◌≡◌, ◌<◌, length}
-use Rattle.circuit_tests.proofs.tests.sweeps.lists.many_lines.Given as goal
-
--- the text is kept, and there are three targets
-abbrev pub invariant-loop-turn : goal.invariant-loop-turn
-invariant-loop-turn l = record { kept : l.text < length l.lines.texts; targets : l.lines.targets ≡ 3 }

@@ -1,9 +1,0 @@
-mod agreement;
-mod analyses;
-mod beside;
-mod destabilizers;
-mod entries;
-mod parts;
-mod runs;
-mod table;
-mod three_steps;

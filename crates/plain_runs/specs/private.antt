@@ -1,4 +1,0 @@
-pub mod GivenRuns
-pub mod KeptLists
-pub mod PlainSteps
-pub mod Unrolled

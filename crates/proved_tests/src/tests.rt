@@ -1,0 +1,6 @@
+mod calls;
+mod circuits;
+mod orders;
+mod sweeps;
+mod tables;
+mod words;

@@ -1,0 +1,70 @@
+//! Error models that are read: the coordinates of their detectors, and what named lines flip.
+use dem_text::{Model, PlacedModel, laws, place, read, symptom};
+use std::alloc::{AllocError, Global};
+use step_model::Fault;
+
+/// Whether a model has these coordinates, of each detector how many and which.
+fn has_coordinates(
+    alloc: Global,
+    model: &Model<'_, Global>,
+    wanted: &[i64],
+) -> Result<bool, AllocError> {
+    let mut found = Vec::new(alloc);
+    for detector in 0..model.detector_count() {
+        let coordinates = model.coordinates(detector);
+        found.push(coordinates.len() as i64)?;
+        found.extend_from_slice(coordinates)?;
+    }
+    Ok(found.as_slice() == wanted)
+}
+
+/// Lines that give a detector coordinates twice, and errors that flip a target together.
+const MODEL: &[u8] =
+    b"detector(1, 2) D0 D1\ndetector D0\nerror(0.1) D1 D0 L0\nshift_detectors(0, 5) 1\ndetector(-1, 1, 3) D0\nerror(0.2) D0 L0 ^ D0\n";
+
+/// The second detector's are those of the last line that gives it any.
+const COORDINATES: &[i64] = &[2, 1, 2, 3, -1, 6, 3];
+
+/// Both errors together flip the detectors, and the observable twice.
+const SYMPTOM: &[bool] = &[true, true, false];
+
+fn has_symptom(alloc: Global, model: &Model<'_, Global>) -> Result<bool, Fault> {
+    let flipped = symptom(alloc, model, &[true, true])?;
+    Ok(flipped.as_slice() == SYMPTOM)
+}
+
+fn is_model(alloc: Global, model: &Model<'_, Global>) -> Result<bool, Fault> {
+    if !has_coordinates(alloc, model, COORDINATES)? {
+        return Ok(false);
+    }
+    has_symptom(alloc, model)
+}
+
+fn has_model(alloc: Global) -> Result<bool, Fault> {
+    laws::texts_are_judged_once();
+    laws::texts_write_accepted_trees();
+    laws::texts_stand_for_trees();
+    let model = read(alloc, MODEL)?;
+    Ok(is_model(alloc, &model)?)
+}
+
+#[test]
+fn models_are_read(rt: HostRuntime) {
+    assert!(rt; matches!(has_model(rt.alloc()), Ok(true)));
+}
+
+/// The same of a model whose lines stay in the text.
+fn is_placed(alloc: Global, model: &PlacedModel<'_, Global>) -> Result<bool, Fault> {
+    let flipped = model.symptom(alloc, &[true, true])?;
+    Ok(model.line_count() == 2 && flipped.as_slice() == SYMPTOM)
+}
+
+fn has_placed(alloc: Global) -> Result<bool, Fault> {
+    let model = place(alloc, MODEL)?;
+    Ok(is_placed(alloc, &model)?)
+}
+
+#[test]
+fn models_are_placed(rt: HostRuntime) {
+    assert!(rt; matches!(has_placed(rt.alloc()), Ok(true)));
+}

@@ -1,0 +1,73 @@
+//! A word that is applied to a state, the destabilizers, and the laws of the rows.
+ghost use Rattle.std.specs.Prelude.{◌≡◌};
+ghost use Rattle.tableau.specs.Rows.{row_count};
+
+use pauli_word::{Letter, Word};
+use std::alloc::{AllocError, Global};
+use tableau::{Tableau, laws};
+
+fn call_laws(tableau: &Tableau<Global>) {
+    laws::rows_anticommute_in_pairs(tableau);
+    laws::states_are_groups(tableau);
+    laws::states_hold_the_products(tableau);
+    laws::stabilizers_are_complete(tableau);
+    laws::rows_span_all_words(tableau);
+}
+
+/// Whether the destabilizer of a row of two qubits is Z at the second, with sign plus.
+fn is_second_z(
+    alloc: Global,
+    tableau: &Tableau<Global>,
+    row: Option<usize>,
+) -> Result<bool, AllocError> {
+    let row = row.unwrap_or(2);
+    if tableau.len() != 2 || 2 <= row {
+        return Ok(false);
+    }
+    laws::rows_have_all_letters(tableau);
+    let letter = tableau.destabilizer_letter(row, 1);
+    let mut word = Word::identity(alloc, 2)?;
+    word.set_sign(true);
+    tableau.destabilizer(row, &mut word);
+    Ok(
+        letter == Letter::Z
+            && !word.sign()
+            && word.letter(0) == Letter::I
+            && word.letter(1) == Letter::Z,
+    )
+}
+
+/// Whether X at the second of two qubits that are 0, which is applied with sign minus, makes this one 1.
+fn turns_second(alloc: Global, tableau: &mut Tableau<Global>) -> Result<bool, AllocError>
+    requires { row_count tableau.old ≡ 2 }
+{
+    let mut word = Word::identity(alloc, 2)?;
+    word.set_letter(1, Letter::X);
+    word.set_sign(true);
+    tableau.apply_word(&word);
+    let first = tableau.collapse(Letter::Z, 0, true);
+    let second = tableau.collapse(Letter::Z, 1, false);
+    Ok(first == (false, None) && second == (true, None))
+}
+
+fn word_turns_second(alloc: Global) -> Result<bool, AllocError> {
+    turns_second(alloc, &mut Tableau::start(alloc, 2)?)
+}
+
+#[test]
+fn a_word_is_applied(rt: HostRuntime) {
+    assert!(rt; matches!(word_turns_second(rt.alloc()), Ok(true)));
+}
+
+/// X that is measured at the second of two qubits that are 0 is random, and takes the place of that qubit's Z.
+fn second_x_replaces_z(alloc: Global) -> Result<bool, AllocError> {
+    let mut tableau = Tableau::start(alloc, 2)?;
+    let (outcome, row) = tableau.collapse(Letter::X, 1, true);
+    call_laws(&tableau);
+    Ok(outcome && is_second_z(alloc, &tableau, row)?)
+}
+
+#[test]
+fn what_was_replaced_is_the_destabilizer(rt: HostRuntime) {
+    assert!(rt; matches!(second_x_replaces_z(rt.alloc()), Ok(true)));
+}

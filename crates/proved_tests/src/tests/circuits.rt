@@ -1,0 +1,3 @@
+mod analyses;
+mod entries;
+mod parts;

@@ -1,0 +1,5 @@
+mod devices;
+mod memory;
+mod rows;
+mod worked;
+mod writers;

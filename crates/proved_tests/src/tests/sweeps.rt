@@ -1,0 +1,4 @@
+mod calls;
+mod growths;
+mod lent;
+mod long;

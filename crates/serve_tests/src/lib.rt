@@ -1,6 +1,0 @@
-//! Tests of `serve` over memory: orders that were worked by hand, and each refusal of memory and each failure of a device. The
-//! crate has nothing but tests; docs/TESTING.md tells what each does.
-#![tactic(auto)]
-
-#[cfg(test)]
-mod tests;

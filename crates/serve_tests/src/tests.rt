@@ -1,2 +1,0 @@
-mod sweeps;
-mod worked;

@@ -1,4 +1,0 @@
-mod devices;
-mod memory;
-mod rows;
-mod writers;
