@@ -1,5 +1,5 @@
 //! For each record the targets that list it, while feedback changes the set of one.
-ghost use Rattle.std.specs.Prelude.{◌≡◌, ◌<◌, ◌≤◌, ◌^◌, ℕ, [], None, Some, length, slice_index_or, slice_set, take, All, IfOk, OnOk};
+ghost use Rattle.std.specs.Prelude.{◌≡◌, ◌<◌, ◌≤◌, ◌^◌, ◌++◌, ℕ, [], None, Some, length, slice_index_or, slice_set, take, All, IfOk, OnOk};
 ghost use Rattle.backward.specs.private.Apart.{toggled_at, with_apart, AreToggled, IsApart};
 ghost use Rattle.backward.specs.private.Collapses.{toggled_each};
 ghost use Rattle.backward.specs.private.Passes.{listing_sets};
@@ -78,7 +78,8 @@ impl<'s, A: Allocator + Copy> ChangingLists<'s, A> {
         ensures same { OnOk result (self.new ≡ self.old) }
     {
         if self.changes.len() == 0 {
-            copy_into(self.listed.get(rec), into)?;
+            into.clear();
+            append(into, self.listed.get(rec))?;
             return make_ascend(self.alloc, self.targets, into);
         }
         put_back(&mut self.changes, &mut self.apart, self.targets, &self.set)?;
@@ -124,12 +125,11 @@ impl<'s, A: Allocator + Copy> ChangingLists<'s, A> {
     }
 }
 
-// Puts copies of targets into `into`, in place of what it held. They are few, mostly.
+// Appends these targets, which are few mostly.
 #[inline(always)]
-fn copy_into<B: Allocator + Copy>(targets: &[u32], into: &mut Vec<u32, B>) -> Result<(), AllocError>
-    ensures { OnOk result (into.new.items ≡ targets.now) }
+fn append<A: Allocator + Copy>(into: &mut Vec<u32, A>, targets: &[u32]) -> Result<(), AllocError>
+    ensures { OnOk result (into.new.items ≡ into.old.items ++ targets.now) }
 {
-    into.clear();
     for target in targets {
         into.push(*target)?;
     }
@@ -242,7 +242,7 @@ fn put_toggled<A: Allocator + Copy>(
             j += 1;
         }
     }
-    into.extend_from_slice(&set[i..])?;
-    into.extend_from_slice(&targets[j..])?;
+    append(into, &set[i..])?;
+    append(into, &targets[j..])?;
     Ok(())
 }

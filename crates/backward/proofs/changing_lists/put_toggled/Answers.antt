@@ -41,8 +41,8 @@ returns g c =
     let j = c.loop-i.j in
     let into = c.loop-i.into.items in
     let held = c.loop-i.invariant in
-    let first = c.in_ok-extend_from_slice.ensures.items ∙ ap (λ rest. into ++ rest) (take_rest xs i) in
-    let whole = c.in_ok-extend_from_slice-2.ensures.items ∙ ap₂ (λ a b. a ++ b) first (take_rest targets j) in
+    let first = c.in_ok-append.ensures ∙ ap (λ rest. into ++ rest) (take_rest xs i) in
+    let whole = c.in_ok-append-2.ensures ∙ ap₂ (λ a b. a ++ b) first (take_rest targets j) in
     record {
       parity = λ t. ap (λ l. is_listed l t) whole ∙ (merged_rest into (drop j targets) (drop i xs) t ∙ held.parity t);
       below = λ m of_targets of_set. subst (All (λ t. t < m)) (sym whole) (below_rest m i j into xs targets (held.below m of_targets of_set) of_set of_targets);
