@@ -1,4 +1,4 @@
-//! Going back over the steps of a program, one at a time.
+//! Going back over the steps of a program, one at a time, or over a run of faults at once.
 ghost use Rattle.std.specs.Prelude.{◌≡◌, ◌<◌, ◌≤◌, ◌-◌, ◌+◌, length, reverse, All, OnOk, Some, None};
 ghost use Rattle.step_model.specs.Listing.{Fault};
 ghost use Rattle.step_model.specs.Targets.{targets_of};
@@ -48,8 +48,8 @@ pub(crate) fn step_back<'s, 'p, 'a, A: Allocator + Copy, T: Tracker, L: LineStor
     }
 }
 
-/// Goes back over the faults right before a point, to a place at most. Most steps of a noisy circuit are faults in runs, so
-/// these have a loop of their own.
+// Goes back over the faults right before a point, to a place at most. Most steps of a noisy circuit are faults in runs, so
+// these have a loop of their own.
 fn faults_back<'s, 'p, 'a, A: Allocator + Copy, T: Tracker, L: LineStore>(
     program: &Program<'a, A>,
     to: usize,
@@ -83,7 +83,8 @@ fn faults_back<'s, 'p, 'a, A: Allocator + Copy, T: Tracker, L: LineStore>(
     Ok(())
 }
 
-/// Goes back over the faults right before a point, and over the step before these, to a place at most.
+/// Goes back over the faults right before a point, and over the step before these, to a place at most. It goes over one step
+/// at least.
 pub(crate) fn steps_back<'s, 'p, 'a, A: Allocator + Copy, T: Tracker, L: LineStore>(
     program: &Program<'a, A>,
     to: usize,
@@ -260,7 +261,7 @@ fn fault<'s, 'p, 'a, A: Allocator + Copy, T: Tracker, L: LineStore>(
     note_line(program, name.entry, found.hit.as_slice(), lines)
 }
 
-// The same where the step before was no fault. It stands apart, so that the loop over faults alone has it in line.
+// The same for a fault that no run is gone over with. Only the loop over a run has the code in line.
 #[inline(never)]
 fn lone_fault<'s, 'p, 'a, A: Allocator + Copy, T: Tracker, L: LineStore>(
     program: &Program<'a, A>,

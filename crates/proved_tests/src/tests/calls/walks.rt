@@ -111,6 +111,15 @@ fn goes_back(walk: &mut Walk<'_, '_, Global>, step: &Step) -> bool {
     walk.previous_step() == Some(*step)
 }
 
+// Whether the step before a walk is answered as a fault, and gone back over, just where it is one.
+fn answers_fault(walk: &Walk<'_, '_, Global>, step: &Step) -> bool {
+    let mut walk = walk.copy();
+    match walk.previous_fault() {
+        Some(name) => *step == Step::Fault(name) && walk.next_step() == Some(*step),
+        None => !matches!(step, Step::Fault(_)) && walk.previous_step() == Some(*step),
+    }
+}
+
 // Goes over each step forth, back and forth again, and then back to the start.
 fn walks_over(program: &Program<'_, Global>, steps: &[Step]) -> bool {
     let mut walk = Walk::start(program);
@@ -132,10 +141,12 @@ fn walks_back_over(program: &Program<'_, Global>, steps: &[Step]) -> bool {
     let mut walk = Walk::end(program);
     let mut all = walk.next_step().is_none();
     for step in steps.iter().rev() {
+        all &= answers_fault(&walk, step);
         all &= goes_back(&mut walk, step);
         all &= goes_forth(&mut walk, step);
         all &= goes_back(&mut walk, step);
     }
+    all &= walk.previous_fault().is_none();
     all &= walk.previous_step().is_none();
     for step in steps {
         all &= goes_forth(&mut walk, step);
