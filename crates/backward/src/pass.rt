@@ -261,7 +261,7 @@ fn fault<'s, 'p, 'a, A: Allocator + Copy, T: Tracker, L: LineStore>(
     note_line(program, name.entry, found.hit.as_slice(), lines)
 }
 
-// The same for a fault that no run is gone over with. Only the loop over a run has the code in line.
+// The same by a call, so that only the loop over a run of faults has the code in line.
 #[inline(never)]
 fn lone_fault<'s, 'p, 'a, A: Allocator + Copy, T: Tracker, L: LineStore>(
     program: &Program<'a, A>,
