@@ -3,6 +3,7 @@ use crate::tests::words::{dense_words, sparse_words};
 use backward::{Analysed, analyse};
 use error_models::Model;
 use programs::Program;
+use run_laws::constancy;
 use std::alloc::Global;
 use std::test::Fail;
 use step_model::{Fault, Place};
@@ -56,12 +57,23 @@ fn is_model(analysed: &Analysed<'_, Global>) -> bool {
     }
 }
 
+fn call_laws() {
+    constancy::sensitivities_stay();
+    constancy::parity_is_constant();
+    constancy::faults_add_up();
+    constancy::one_fault_flips_what_it_hits();
+    constancy::hits_make_exact_model();
+    constancy::at_most_one_model_is_exact();
+}
+
 fn have_model(alloc: Global, program: &Program<'_, Global>) -> Result<bool, Fault> {
-    Ok(is_model(&by_dense(alloc, program)?) && is_model(&by_sparse(&alloc, program)?))
+    let found = by_dense(alloc, program)?;
+    Ok(is_model(&found) && is_model(&by_sparse(&alloc, program)?))
 }
 
 #[test]
 fn models_of_a_circuit(rt: HostRuntime) -> Result<(), Fail> {
+    call_laws();
     let program = read_program(rt.alloc(), CIRCUIT)?;
     assert!(rt; have_model(rt.alloc(), &program)?);
     Ok(())

@@ -5,6 +5,7 @@ use crate::tests::tables::{are_coins, are_digits};
 use frames::{coin_pair, flips};
 use pauli_word::{Letter, Word};
 use programs::Program;
+use run_laws::shift;
 use std::alloc::{AllocError, Global};
 use step_model::{Fault, Place};
 use test_support::text_of;
@@ -47,8 +48,18 @@ fn is_pair(alloc: Global, row: (&str, Place, &str)) -> Result<bool, Fault> {
     text_has_pair(alloc, text.as_slice(), row.1, row.2)
 }
 
+fn call_laws() {
+    shift::frames_shift_runs();
+    shift::words_of_states_shift_runs();
+    shift::frames_multiply();
+    shift::pair_disagrees();
+    shift::place_makes_random();
+    shift::random_exactly_with_place();
+}
+
 #[test]
 fn pairs_of_the_table(rt: HostRuntime) {
+    call_laws();
     for row in PAIRS {
         assert!(rt;
             matches!(is_pair(rt.alloc(), *row), Ok(true)),

@@ -1,5 +1,5 @@
 //! Error models that are read: the coordinates of their detectors, and what named lines flip.
-use dem_text::{Model, PlacedModel, laws, place, read, symptom};
+use dem_text::{Model, PlacedModel, laws, model_laws, place, read, symptom};
 use std::alloc::{AllocError, Global};
 use step_model::Fault;
 
@@ -44,6 +44,9 @@ fn has_model(alloc: Global) -> Result<bool, Fault> {
     laws::texts_are_judged_once();
     laws::texts_write_accepted_trees();
     laws::texts_stand_for_trees();
+    model_laws::texts_read_back();
+    model_laws::models_of_programs_read_back();
+    model_laws::models_of_texts_read_back();
     let model = read(alloc, MODEL)?;
     Ok(is_model(alloc, &model)?)
 }

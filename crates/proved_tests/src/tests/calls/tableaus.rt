@@ -1,10 +1,27 @@
-//! A word that is applied to a state, the destabilizers, and the laws of the rows.
+//! A word that is applied to a state, the destabilizers, and the laws of states and rows.
 ghost use Rattle.std.specs.Prelude.{◌≡◌};
 ghost use Rattle.tableau.specs.Rows.{row_count};
 
+use gate_table::laws as gate_laws;
 use pauli_word::{Letter, Word};
 use std::alloc::{AllocError, Global};
+use step_model::laws as step_laws;
 use tableau::{Tableau, laws};
+
+/// The laws of gates and steps, by which states change.
+fn call_laws_of_steps() {
+    gate_laws::arity_is_one_or_two();
+    gate_laws::images_keep_products();
+    gate_laws::images_keep_clashes();
+    gate_laws::inverses_undo();
+    gate_laws::images_keep_identity();
+    gate_laws::word_images_keep_products();
+    gate_laws::word_images_keep_commuting();
+    gate_laws::word_preimages_undo();
+    gate_laws::gates_keep_group();
+    step_laws::steps_keep_group();
+    step_laws::states_are_groups();
+}
 
 fn call_laws(tableau: &Tableau<Global>) {
     laws::rows_anticommute_in_pairs(tableau);
@@ -56,6 +73,7 @@ fn word_turns_second(alloc: Global) -> Result<bool, AllocError> {
 
 #[test]
 fn a_word_is_applied(rt: HostRuntime) {
+    call_laws_of_steps();
     assert!(rt; matches!(word_turns_second(rt.alloc()), Ok(true)));
 }
 

@@ -138,6 +138,7 @@ fn is_written(alloc: Global, text: &[u8], wanted: &str) -> Result<bool, Fault> {
     laws::texts_are_judged_once();
     laws::texts_write_circuits();
     laws::trees_are_told_apart();
+    laws::circuits_are_written();
     let circuit = parse(alloc, text)?;
     circuit.fits();
     Ok(says(alloc, &circuit, wanted)?)

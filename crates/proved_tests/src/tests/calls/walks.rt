@@ -7,6 +7,7 @@ use std::alloc::{AllocError, Global};
 use std::test::Fail;
 use step_model::Fault;
 use test_support::text_of;
+use unroll::laws::texts_stand_for_trees;
 use unroll::read_program;
 
 /// A row a circuit: its lines, how many records and how many faults it has, and its steps.
@@ -172,6 +173,7 @@ fn program_holds(
 }
 
 fn text_holds(alloc: Global, text: &[u8], told: (&str, &str)) -> Result<bool, Fault> {
+    texts_stand_for_trees();
     let program = read_program(alloc, text)?;
     Ok(program_holds(alloc, &program, told)?)
 }

@@ -124,6 +124,9 @@ fn call_laws() {
     laws::commuting_products_are_signed();
     laws::anticommuting_adds_up();
     laws::commuting_words_form_a_group();
+    laws::start_is_group();
+    laws::applied_words_keep_group();
+    laws::collapses_keep_group();
 }
 
 /// The letters of two words, and whether these commute.
