@@ -281,7 +281,7 @@ class Fails(Case):
         self.assertEqual(ended.stdout, b"")
         self.assertIn(b"Rattle toolchain", ended.stderr)
         self.assertIn(b"rt has to be in PATH", ended.stderr)
-        self.assertNotIn(b"minutes", ended.stderr)
+        self.assertNotIn(b"half an hour", ended.stderr)
         self.assert_builds(code="second code")
 
     def test_no_toolchain_in_a_fresh_clone(self):
