@@ -1,5 +1,7 @@
 -- One step gone back over: where a call failed, and where the step has no fault.
-use Rattle.std.proofs.Common.{◌≡◌, ℕ, List, [], Result, Ok, Err, OnOk, refl, subst, sym, ◌∙◌}
+use Rattle.std.proofs.Common.{◌≡◌, ℕ, ◌+◌, ◌≤◌, List, [], Result, Ok, Err, OnOk, refl, ap, subst, sym, ◌∙◌, arith}
+use Rattle.std.specs.Prelude.{reverse}
+use Rattle.std.proofs.lemmas.Result.{on_ok_weaker}
 use Rattle.step_model.specs.ErrorModels.{ErrorLine}
 use Rattle.step_model.specs.Listing.{Listing, ListedStep}
 use Rattle.step_model.specs.WellFormed.{step_faults}
@@ -9,7 +11,9 @@ use Rattle.programs.specs.declared.step.Step.{Step}
 use Rattle.backward.specs.declared.found.Found.{Found}
 use Rattle.backward.specs.declared.point.Point.{Point}
 use Rattle.backward.specs.private.Passes.{IsPassed, IsStepAt, Stays}
-use Rattle.backward.specs.private.Steps.{IsGoneOver, IsUndone}
+use Rattle.backward.specs.private.Steps.{AreGoneOver, IsGoneOver, IsUndone}
+use Rattle.backward.specs.private.Stretches.{Gives, lines_between}
+use Rattle.backward.proofs.HeldLines.{gives_step}
 use Rattle.backward.proofs.PassSteps.{gives_none, no_line}
 use Rattle.trackers.specs.Tracked.{Tracked}
 
@@ -54,4 +58,22 @@ over_quiet {holds = holds} {program = program} {from = from} lines r step at non
       undone = undone;
       lines = on_ok_any r (gives_none (holds lines) _ (no_line program from.walk.place step at none));
       store = refl;
+    }
+
+-- ---- a step gone over is a run of one
+pub one_gone_over : {A T L U E : Type 0} {tracked : T → Tracked} {kept : L → KeptProgram} {holds : L → List ErrorLine → Type 0} {program : Listing} (most : ℕ) {from to : Point A T} {old new : Found A} {before after : L} {r : Result U E}
+    → most ≤ from.walk.place → IsGoneOver tracked kept holds program from to old new before after r → AreGoneOver tracked kept holds program most from to old new before after r
+one_gone_over {tracked = tracked} {holds = holds} {program = program} most {from = from} {to = to} {new = new} {before = before} {after = after} {r = r} within over =
+    let back = sym (ap (λ w. w.place) over.undone.walk) in
+    record {
+      program_is = ap (λ w. w.program) over.undone.walk;
+      above = omega (arith, back, within);
+      below = omega (arith, back);
+      passed = subst (λ k. OnOk r (IsPassed program k (tracked to.tracker) new)) back over.undone.passed;
+      stays = over.undone.stays;
+      lines =
+          on_ok_weaker r
+          (λ gives. subst (λ k. Gives (holds before) (holds after) (reverse (lines_between program k (from.walk.place + 1)))) back (gives_step program from.walk.place (from.walk.place + 1) (holds before) (holds after) refl gives))
+          over.lines;
+      store = over.store;
     }

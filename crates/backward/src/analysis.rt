@@ -9,7 +9,7 @@ ghost use Rattle.backward.specs.private.Passes.{IsPassed};
 
 use crate::found::Found;
 use crate::line_store::ModelStore;
-use crate::pass::step_back;
+use crate::pass::steps_back;
 use crate::places::random_target;
 use crate::point::Point;
 use error_models::Model;
@@ -91,7 +91,7 @@ fn go_back<'s, 'p, 'a, A: Allocator + Copy, T: Tracker>(
 {
     program.well_formed();
     while at.walk.place() > 0 {
-        step_back(program, at, found, lines)?;
+        steps_back(program, 0, at, found, lines)?;
     }
     random_target(program, &mut at.tracker, found)
 }

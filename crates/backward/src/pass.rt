@@ -1,12 +1,12 @@
 //! Going back over the steps of a program, one at a time, or over a run of faults at once.
-ghost use Rattle.std.specs.Prelude.{◌≡◌, ◌<◌, ◌≤◌, ◌-◌, ◌+◌, length, reverse, All, OnOk, Some, None};
+ghost use Rattle.std.specs.Prelude.{◌≡◌, ◌<◌, ◌≤◌, ◌+◌, length, reverse, All, OnOk};
 ghost use Rattle.step_model.specs.Listing.{Fault};
 ghost use Rattle.step_model.specs.Targets.{targets_of};
 ghost use Rattle.programs.specs.Kept.{kept_at};
 ghost use Rattle.programs.specs.Listed.{listed};
 ghost use Rattle.programs.specs.Named.{IsNamed, IsNamedFlip, IsStepOf};
 ghost use Rattle.backward.specs.private.Passes.{IsCollapseAt, IsFeedbackAt, IsPassed, IsStepAt, Stays};
-ghost use Rattle.backward.specs.private.Steps.{IsGoneOver, IsUndone};
+ghost use Rattle.backward.specs.private.Steps.{AreGoneOver, IsGoneOver, IsUndone};
 ghost use Rattle.backward.specs.private.Stretches.{Gives, flip_line, line_for, lines_at, lines_between};
 
 use crate::collapse::undo_collapse;
@@ -19,72 +19,8 @@ use std::alloc::{AllocError, Allocator};
 use step_model::Term;
 use trackers::Tracker;
 
-/// Goes back over the step before a point, which there is.
-pub(crate) fn step_back<'s, 'p, 'a, A: Allocator + Copy, T: Tracker, L: LineStore>(
-    program: &Program<'a, A>,
-    at: &mut Point<'p, 'a, A, T>,
-    found: &mut Found<'s, A>,
-    lines: &mut L,
-) -> Result<(), AllocError>
-    requires program { at.old.walk.program ≡ program.now }
-    requires some { 0 < at.old.walk.place }
-    requires store { L.program lines.old ≡ program.now }
-    requires passed { IsPassed program.now.listing at.old.walk.place (T.tracked at.old.tracker)
-        found.old }
-    ensures program { at.new.walk.program ≡ at.old.walk.program }
-    ensures place { at.new.walk.place ≡ at.old.walk.place - 1 }
-    ensures passed { OnOk result
-        (IsPassed program.now.listing at.new.walk.place (T.tracked at.new.tracker) found.new) }
-    ensures stays { Stays found.old found.new }
-    ensures lines { OnOk result
-        (Gives (L.holds lines.old) (L.holds lines.new)
-        (lines_at program.now.listing at.new.walk.place)) }
-    ensures store { L.program lines.new ≡ L.program lines.old }
-{
-    program.well_formed();
-    match at.walk.previous_step() {
-        Some(step) => go_over(program, step, at, found, lines),
-        None => Ok(()),
-    }
-}
-
-// Goes back over the faults right before a point, to a place at most. Most steps of a noisy circuit are faults in runs, so
-// these have a loop of their own.
-fn faults_back<'s, 'p, 'a, A: Allocator + Copy, T: Tracker, L: LineStore>(
-    program: &Program<'a, A>,
-    to: usize,
-    at: &mut Point<'p, 'a, A, T>,
-    found: &mut Found<'s, A>,
-    lines: &mut L,
-) -> Result<(), AllocError>
-    requires program { at.old.walk.program ≡ program.now }
-    requires to { to ≤ at.old.walk.place }
-    requires store { L.program lines.old ≡ program.now }
-    requires passed { IsPassed program.now.listing at.old.walk.place (T.tracked at.old.tracker)
-        found.old }
-    ensures program { at.new.walk.program ≡ at.old.walk.program }
-    ensures to { to ≤ at.new.walk.place }
-    ensures back { at.new.walk.place ≤ at.old.walk.place }
-    ensures passed { OnOk result
-        (IsPassed program.now.listing at.new.walk.place (T.tracked at.new.tracker) found.new) }
-    ensures stays { Stays found.old found.new }
-    ensures lines { OnOk result
-        (Gives (L.holds lines.old) (L.holds lines.new)
-        (reverse
-        (lines_between program.now.listing at.new.walk.place at.old.walk.place))) }
-    ensures store { L.program lines.new ≡ L.program lines.old }
-{
-    while at.walk.place() > to {
-        match at.walk.previous_fault() {
-            Some(name) => fault(program, name, at, found, lines)?,
-            None => return Ok(()),
-        }
-    }
-    Ok(())
-}
-
-/// Goes back over the faults right before a point, and over the step before these, to a place at most. It goes over one step
-/// at least.
+/// Goes back over the step before a point, which there is, and where it is a fault over the faults right before it, to a
+/// place at most.
 pub(crate) fn steps_back<'s, 'p, 'a, A: Allocator + Copy, T: Tracker, L: LineStore>(
     program: &Program<'a, A>,
     to: usize,
@@ -110,28 +46,32 @@ pub(crate) fn steps_back<'s, 'p, 'a, A: Allocator + Copy, T: Tracker, L: LineSto
         (lines_between program.now.listing at.new.walk.place at.old.walk.place))) }
     ensures store { L.program lines.new ≡ L.program lines.old }
 {
-    faults_back(program, to, at, found, lines)?;
-    if at.walk.place() <= to {
-        return Ok(());
+    program.well_formed();
+    match at.walk.previous_step() {
+        Some(step) => go_over(program, step, to, at, found, lines),
+        None => Ok(()),
     }
-    step_back(program, at, found, lines)
 }
 
-// Goes back over a step, which the walk has gone back over already.
-fn go_over<'s, 'p, 'a, A: Allocator + Copy, T: Tracker, L: LineStore>(
+/// Goes back over a step, which the walk has gone back over already, and where it is a fault over the faults right before
+/// it, to a place at most.
+pub(crate) fn go_over<'s, 'p, 'a, A: Allocator + Copy, T: Tracker, L: LineStore>(
     program: &Program<'a, A>,
     step: Step,
+    to: usize,
     at: &mut Point<'p, 'a, A, T>,
     found: &mut Found<'s, A>,
     lines: &mut L,
 ) -> Result<(), AllocError>
+    requires program { at.old.walk.program ≡ program.now }
+    requires to { to ≤ at.old.walk.place }
     requires step { IsStepAt program.now.listing at.old.walk.place
         (listed program.now.listing.qubits program.now.products step) }
     requires named { IsStepOf program.now step }
     requires store { L.program lines.old ≡ program.now }
     requires passed { IsPassed program.now.listing (at.old.walk.place + 1)
         (T.tracked at.old.tracker) found.old }
-    ensures { IsGoneOver T.tracked L.program L.holds program.now.listing at.old at.new found.old
+    ensures { AreGoneOver T.tracked L.program L.holds program.now.listing to at.old at.new found.old
         found.new lines.old lines.new result }
 {
     program.well_formed();
@@ -159,7 +99,7 @@ fn go_over<'s, 'p, 'a, A: Allocator + Copy, T: Tracker, L: LineStore>(
             let terms = program.product(product);
             collapse(program, terms, None, rec, flip, at, found, lines)
         }
-        Step::Fault(name) => lone_fault(program, name, at, found, lines),
+        Step::Fault(name) => faults_back(program, name, to, at, found, lines),
         Step::Feedback { letter, q, rec } => {
             feedback(program, Term { qubit: q, letter }, rec, at, found)
         }
@@ -261,24 +201,37 @@ fn fault<'s, 'p, 'a, A: Allocator + Copy, T: Tracker, L: LineStore>(
     note_line(program, name.entry, found.hit.as_slice(), lines)
 }
 
-// The same by a call, so that only the loop over a run of faults has the code in line.
+// Goes back over a fault, which the walk has gone back over already, and over the faults right before it, to a place at
+// most. Most steps of a noisy circuit are faults in runs, so these have a loop of their own.
 #[inline(never)]
-fn lone_fault<'s, 'p, 'a, A: Allocator + Copy, T: Tracker, L: LineStore>(
+fn faults_back<'s, 'p, 'a, A: Allocator + Copy, T: Tracker, L: LineStore>(
     program: &Program<'a, A>,
-    name: FaultName,
+    last: FaultName,
+    to: usize,
     at: &mut Point<'p, 'a, A, T>,
     found: &mut Found<'s, A>,
     lines: &mut L,
 ) -> Result<(), AllocError>
-    requires step { IsStepAt program.now.listing at.old.walk.place (Fault name.number) }
-    requires named { IsNamed program.now name }
+    requires program { at.old.walk.program ≡ program.now }
+    requires to { to ≤ at.old.walk.place }
+    requires step { IsStepAt program.now.listing at.old.walk.place (Fault last.number) }
+    requires named { IsNamed program.now last }
     requires store { L.program lines.old ≡ program.now }
     requires passed { IsPassed program.now.listing (at.old.walk.place + 1)
         (T.tracked at.old.tracker) found.old }
-    ensures { IsGoneOver T.tracked L.program L.holds program.now.listing at.old at.new found.old
+    ensures { AreGoneOver T.tracked L.program L.holds program.now.listing to at.old at.new found.old
         found.new lines.old lines.new result }
 {
-    fault(program, name, at, found, lines)
+    let mut left = Some(last);
+    while let Some(name) = left {
+        fault(program, name, at, found, lines)?;
+        left = if at.walk.place() > to {
+            at.walk.previous_fault()
+        } else {
+            None
+        };
+    }
+    Ok(())
 }
 
 // Goes back over a letter that is applied where a record is 1: unless the lists are settled, the targets whose words

@@ -5,9 +5,9 @@ ghost use Rattle.backward.specs.private.Points.{ArePoints, IsLeft};
 
 use crate::found::Found;
 use crate::line_store::NoLines;
-use crate::pass::step_back;
+use crate::pass::go_over;
 use crate::point::{KeptPoint, Point};
-use programs::Program;
+use programs::{Program, Step};
 use std::alloc::{AllocError, Allocator};
 use trackers::Tracker;
 
@@ -40,12 +40,40 @@ pub(crate) fn leave_points<'s, 'p, 'a, A: Allocator + Copy, T: Tracker>(
             leave(&mut points, at)?;
             next = next.saturating_sub(distance);
         }
-        // Faults change nothing where no lines are found. One step is left, so that each turn goes back.
-        let stop = next.max(from).saturating_add(1).min(at.walk.place());
-        at.walk.pass_faults_back(stop);
-        step_back(program, at, found, &mut NoLines { program })?;
+        let to = next.max(from).min(at.walk.place() - 1);
+        back_without_lines(program, to, at, found)?;
     }
     Ok(points)
+}
+
+// Goes back over the step before a point, and where it is a fault over the faults right before it, to a place at most.
+// Faults change nothing where no lines are found.
+#[inline(always)]
+fn back_without_lines<'s, 'p, 'a, A: Allocator + Copy, T: Tracker>(
+    program: &Program<'a, A>,
+    to: usize,
+    at: &mut Point<'p, 'a, A, T>,
+    found: &mut Found<'s, A>,
+) -> Result<(), AllocError>
+    requires program { at.old.walk.program ≡ program.now }
+    requires to { to < at.old.walk.place }
+    requires passed { IsPassed program.now.listing at.old.walk.place (T.tracked at.old.tracker)
+        found.old }
+    ensures program { at.new.walk.program ≡ at.old.walk.program }
+    ensures to { to ≤ at.new.walk.place }
+    ensures back { OnOk result (at.new.walk.place < at.old.walk.place) }
+    ensures passed { OnOk result
+        (IsPassed program.now.listing at.new.walk.place (T.tracked at.new.tracker) found.new) }
+    ensures stays { Stays found.old found.new }
+{
+    match at.walk.previous_step() {
+        Some(Step::Fault(_)) => {
+            at.walk.pass_faults_back(to);
+            Ok(())
+        }
+        Some(step) => go_over(program, step, to, at, found, &mut NoLines { program }),
+        None => Ok(()),
+    }
 }
 
 // Leaves a point.

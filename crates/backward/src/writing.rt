@@ -27,7 +27,8 @@ use step_model::{Fault, Place, Sink};
 use streams::Pieces;
 use trackers::Tracker;
 
-/// How much text of error lines is held at once. A longer text is found in parts, in a second pass.
+/// The room for the text of error lines. Up to five times as many bytes are held where that is all of it, else a quarter as
+/// many of its end, and of another part up to twice as many.
 const ROOM: usize = 2 << 20;
 
 /// Writes the text of the error model of a program; or answers the lowest target that is random, observable k being the
@@ -60,8 +61,8 @@ pub fn write_analysis<'a, A: Allocator + Copy, T: Tracker + Drop, W: Sink>(
     write_in_parts(alloc, program, tracker, ROOM, sink)
 }
 
-/// The same, with a text of error lines held up to this many bytes and the lines of 16 steps at most, or five times
-/// as many where all of it seems to fit.
+/// The same, with a room of this many bytes for the text of error lines. Parts of the text are found in a second pass. The
+/// lines of 16 steps come beside what is held, at most.
 pub fn write_in_parts<'a, A: Allocator + Copy, T: Tracker + Drop, W: Sink>(
     alloc: A,
     program: &Program<'a, A>,

@@ -1,9 +1,10 @@
 use Rattle.std.proofs.Common.{◌≡◌, ◌<◌, ◌+◌, refl, ap, sym, ◌∙◌, arith}
 use Rattle.std.specs.Prelude.{List, length, reverse, ◌++◌}
+use Rattle.std.proofs.lemmas.List.{reverse-append}
 use Rattle.std.proofs.lemmas.Result.{on_ok_weaker}
 use Rattle.step_model.specs.ErrorModels.{ErrorLine}
-use Rattle.backward.specs.private.Stretches.{lines_at, lines_between}
-use Rattle.backward.proofs.PassLines.{lines_back-more, lines_between-all, lines_between-none}
+use Rattle.backward.specs.private.Stretches.{lines_between}
+use Rattle.backward.proofs.PassLines.{lines_between-all, lines_between-none, lines_between-parts}
 use Rattle.backward.proofs.analysis.go_back.Goals as goal
 
 pub loop-at-init : goal.loop-at-init
@@ -21,20 +22,19 @@ pub loop-at-preserved : goal.loop-at-preserved
 loop-at-preserved g c =
     let program = c.args.program.now.listing in
     let l = c.loop-at in
-    let e = c.step_back.ensures in
-    let k = c.step_back.new.at.walk.place in
+    let e = c.in_ok-steps_back.ensures in
+    let k = c.steps_back.new.at.walk.place in
     let to = length program.steps in
-    let next : l.at.walk.place ≡ k + 1 = omega (arith, e.place, c.loop-at-test.true, c.place.ensures) in
-    let within : k < to = omega (arith, next, l.invariant.passed.within) in
     record {
       program_is = e.program ∙ l.invariant.program_is;
       store = e.store ∙ l.invariant.store;
       first = e.stays.settled ∙ l.invariant.first;
-      passed = c.in_ok-step_back.ensures.passed;
+      passed = e.passed;
       lines =
-          c.in_ok-step_back.ensures.lines l.lines.model.lines refl
-          ∙ (ap (λ (lines : List ErrorLine). lines ++ lines_at program k) (l.invariant.lines ∙ ap (λ j. reverse (lines_between program j to)) next)
-          ∙ lines_back-more program k to within);
+          e.lines l.lines.model.lines refl
+          ∙ (ap (λ (lines : List ErrorLine). lines ++ reverse (lines_between program k l.at.walk.place)) l.invariant.lines
+          ∙ (sym (reverse-append (lines_between program k l.at.walk.place) (lines_between program l.at.walk.place to))
+          ∙ ap (reverse {A = ErrorLine}) (lines_between-parts program k l.at.walk.place to e.back l.invariant.passed.within)));
     }
 
 pub returns-clause-lines : goal.returns-clause-lines

@@ -1,66 +1,100 @@
-use Rattle.std.proofs.Common.{◌≡◌, ◌+◌, ◌-◌, Some, refl, ap, subst, sym, ◌∙◌, arith}
-use Rattle.std.specs.Prelude.{reverse, slice_get}
-use Rattle.step_model.specs.Listing.{Fault}
-use Rattle.programs.specs.Kept.{KeptProgram}
-use Rattle.programs.specs.Named.{IsNamed}
+use Rattle.std.proofs.Common.{◌≡◌, ◌≤◌, ◌+◌, ◌-◌, ap, refl, subst, sym, ◌∙◌, arith}
+use Rattle.std.specs.Prelude.{reverse}
+use Rattle.backward.specs.private.Passes.{IsPassed}
 use Rattle.backward.specs.private.Stretches.{Gives, lines_between}
 use Rattle.backward.proofs.HeldLines.{gives_on, gives_same, gives_step}
-use Rattle.backward.proofs.PassFaults.{fault_at}
-use Rattle.backward.proofs.StepLemmas.{passed_as, stays_as, stays_on}
+use Rattle.backward.proofs.PassFaults.{is_pending, one_at_most, pending, went_back}
+use Rattle.backward.proofs.StepLemmas.{stays_as, stays_on}
 use Rattle.backward.proofs.pass.faults_back.Given.{Over}
 use Rattle.backward.proofs.pass.faults_back.Goals as goal
-use Rattle.backward.proofs.pass.faults_back.Goals.{In-Some}
+use Rattle.backward.proofs.pass.faults_back.Goals.{In_ok-fault}
 
--- the walk is over the program
-same : (g : Over) (c : In-Some g) → c.loop-at.at.walk.program ≡ c.args.program.now
-same g c = c.loop-at.invariant.program_is ∙ c.requires.program
-
-pub loop-at-init : goal.loop-at-init
-loop-at-init g c =
+pub loop-left-init : goal.loop-left-init
+loop-left-init g c =
     record {
       program_is = refl;
       store = refl;
       above = c.requires.to;
       below = omega arith;
+      left = (c.requires.step, c.requires.named);
       passed = c.requires.passed;
       stays = stays_as refl refl refl;
       lines = gives_same c.args.program.now.listing _ _ _ refl;
     }
 
-pub fault-requires-clause-step : goal.fault-requires-clause-step
-fault-requires-clause-step g c =
-    let l = c.loop-at in
-    let place = c.previous_fault.new.self.place in
-    let here : l.at.walk.place - 1 ≡ place = omega (arith, c.in-Some.ensures.back) in
-    fault_at c.args.program.now.listing place c.in-Some.name.number
-    (subst (λ (p : KeptProgram). slice_get p.listing.steps place ≡ Some (Fault c.in-Some.name.number)) (same g (goal.at.fault-requires-clause-step g c).In-Some)
-    (subst (λ k. slice_get l.at.walk.program.listing.steps k ≡ Some (Fault c.in-Some.name.number)) here c.in-Some.ensures.fault))
+-- the walk stands where it stood before the fault was gone over
+here : (g : Over) (c : In_ok-fault g) → c.fault.new.at.walk.place ≡ c.loop-left.at.walk.place
+here g c = ap (λ w. w.place) c.in_ok-fault.ensures.undone.walk
 
-pub fault-requires-clause-named : goal.fault-requires-clause-named
-fault-requires-clause-named g c =
-    subst (λ (p : KeptProgram). IsNamed p c.in-Some.name) (same g (goal.at.fault-requires-clause-named g c).In-Some) c.in-Some.ensures.named
-
-pub loop-at-preserved : goal.loop-at-preserved
-loop-at-preserved g c =
+-- the lines up to the fault, and those of the fault
+lines_of : (g : Over) (c : In_ok-fault g) → Gives (g.L.LineStore.holds c.args.lines.now) (g.L.LineStore.holds c.fault.new.lines) (reverse (lines_between c.args.program.now.listing c.loop-left.at.walk.place (c.args.at.now.walk.place + 1)))
+lines_of g c =
     let program = c.args.program.now.listing in
     let holds = g.L.LineStore.holds in
-    let l = c.loop-at in
-    let old = l.at.walk.place in
-    let place = c.previous_fault.new.self.place in
-    let to = c.args.at.now.walk.place in
+    let l = c.loop-left in
+    let place = l.at.walk.place in
+    let to = c.args.at.now.walk.place + 1 in
+    let before = subst (λ k. Gives (holds c.args.lines.now) (holds l.lines) (reverse (lines_between program k to))) (ap (λ n. place + n) (ap pending c.in-Some.is)) l.invariant.lines in
+    gives_on program place (place + 1) to (holds c.args.lines.now) (holds l.lines) (holds c.fault.new.lines) (omega arith) (omega (arith, l.invariant.below)) before
+    (gives_step program place (place + 1) (holds l.lines) (holds c.fault.new.lines) refl c.in_ok-fault.ensures.lines)
+
+pub loop-left-preserved-then-place-to : goal.loop-left-preserved-then-place-to
+loop-left-preserved-then-place-to g c =
+    let program = c.args.program.now in
+    let holds = g.L.LineStore.holds in
+    let over = (goal.at.loop-left-preserved-then-place-to g c).In_ok-fault in
+    let l = c.loop-left in
     let now = c.fault.new in
-    let over = c.in_ok-fault-in-Some.ensures in
-    let back : place + 1 ≡ old = c.in-Some.ensures.back in
-    let here : now.at.walk.place ≡ place = ap (λ w. w.place) over.undone.walk in
+    let e = c.previous_fault-left.ensures in
+    let left = c.previous_fault-left.result in
+    let place = c.previous_fault-left.new.self.place in
+    let same = ap (λ w. w.program) c.in_ok-fault.ensures.undone.walk ∙ l.invariant.program_is in
+    let back : place + pending left ≡ l.at.walk.place = went_back left now.at.walk.place place e.back e.stays ∙ here g over in
     record {
-      program_is = ap (λ w. w.program) over.undone.walk ∙ (c.previous_fault.ensures.program ∙ l.invariant.program_is);
-      store = over.store ∙ l.invariant.store;
-      above = omega (arith, here, back, c.loop-at-test.true, c.place.ensures);
-      below = omega (arith, here, back, l.invariant.below);
-      passed = passed_as here refl over.undone.passed;
-      stays = stays_on c.args.found.now l.found now.found l.invariant.stays over.undone.stays;
-      lines =
-          subst (λ k. Gives (holds c.args.lines.now) (holds now.lines) (reverse (lines_between program k to))) (sym here)
-          (gives_on program place old to (holds c.args.lines.now) (holds l.lines) (holds now.lines) (omega (arith, back)) l.invariant.below l.invariant.lines
-          (gives_step program place old (holds l.lines) (holds now.lines) (sym back) over.lines));
+      program_is = e.program ∙ same;
+      store = c.in_ok-fault.ensures.store ∙ l.invariant.store;
+      above = omega (arith, back, here g over, one_at_most left, c.if-place-to.true, c.place.ensures);
+      below = omega (arith, back, l.invariant.below);
+      left = is_pending now.at.walk.program program left now.at.walk.place place (same ∙ c.requires.program) e.fault e.named e.back;
+      passed = subst (λ k. IsPassed program.listing k (g.T.Tracker.tracked now.at.tracker) now.found) (sym back) c.in_ok-fault.ensures.undone.passed;
+      stays = stays_on c.args.found.now l.found now.found l.invariant.stays c.in_ok-fault.ensures.undone.stays;
+      lines = subst (λ k. Gives (holds c.args.lines.now) (holds now.lines) (reverse (lines_between program.listing k (c.args.at.now.walk.place + 1)))) (sym back) (lines_of g over);
+    }
+
+pub loop-left-preserved : goal.loop-left-preserved
+loop-left-preserved g c =
+    let program = c.args.program.now.listing in
+    let holds = g.L.LineStore.holds in
+    let over = (goal.at.loop-left-preserved g c).In_ok-fault in
+    let l = c.loop-left in
+    let now = c.fault.new in
+    let stood = here g over in
+    let back : now.at.walk.place + 0 ≡ l.at.walk.place = omega (arith, stood) in
+    record {
+      program_is = ap (λ w. w.program) c.in_ok-fault.ensures.undone.walk ∙ l.invariant.program_is;
+      store = c.in_ok-fault.ensures.store ∙ l.invariant.store;
+      above = omega (arith, stood, l.invariant.above);
+      below = omega (arith, back, l.invariant.below);
+      left = tt;
+      passed = subst (λ k. IsPassed program k (g.T.Tracker.tracked now.at.tracker) now.found) (sym back) c.in_ok-fault.ensures.undone.passed;
+      stays = stays_on c.args.found.now l.found now.found l.invariant.stays c.in_ok-fault.ensures.undone.stays;
+      lines = subst (λ k. Gives (holds c.args.lines.now) (holds now.lines) (reverse (lines_between program k (c.args.at.now.walk.place + 1)))) (sym back) (lines_of g over);
+    }
+
+pub returns : goal.returns
+returns g c =
+    let program = c.args.program.now.listing in
+    let holds = g.L.LineStore.holds in
+    let l = c.loop-left in
+    let place = l.at.walk.place in
+    let none : pending l.left ≡ 0 = ap pending c.in_default.is in
+    let all : place + pending l.left ≡ place = omega (arith, none) in
+    record {
+      program_is = l.invariant.program_is;
+      above = l.invariant.above;
+      below = l.invariant.below;
+      passed = subst (λ k. IsPassed program k (g.T.Tracker.tracked l.at.tracker) l.found) all l.invariant.passed;
+      stays = l.invariant.stays;
+      lines = subst (λ k. Gives (holds c.args.lines.now) (holds l.lines) (reverse (lines_between program k (c.args.at.now.walk.place + 1)))) all l.invariant.lines;
+      store = l.invariant.store;
     }

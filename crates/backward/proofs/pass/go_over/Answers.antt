@@ -4,7 +4,7 @@ use Rattle.std.specs.Bool.{then_some}
 use Rattle.std.proofs.lemmas.Result.{on_ok_weaker}
 use Rattle.programs.specs.Named.{IsStepOf}
 use Rattle.backward.proofs.PassSteps.{letter_at_place, passed-one, passed-two}
-use Rattle.backward.proofs.StepLemmas.{at_step, over_quiet, stays_as}
+use Rattle.backward.proofs.StepLemmas.{at_step, one_gone_over, over_quiet, stays_as}
 use Rattle.backward.proofs.pass.go_over.Goals as goal
 
 some_where : (b : Bool) (q : ℕ) → then_some b q ≡ (if b then Some q else None)
@@ -25,15 +25,21 @@ returns-in-One g c =
     let at = c.args.at.now in
     let there = at_step c.args.program.now at.walk.place c.in-One.is c.requires.step in
     let passed = on_ok_weaker c.undo1.result (λ h. passed-one c.args.program.now at.walk.place (g.T.Tracker.tracked at.tracker) c.args.found.now c.requires.passed c.in-One.gate c.in-One.q _ there h) c.undo1.ensures in
-    over_quiet c.args.lines.now c.undo1.result _ there refl (record { walk = refl; passed = passed; stays = stays_as refl refl refl })
+    one_gone_over c.args.to c.requires.to (over_quiet c.args.lines.now c.undo1.result _ there refl (record { walk = refl; passed = passed; stays = stays_as refl refl refl }))
 
 pub returns-in-Two : goal.returns-in-Two
 returns-in-Two g c =
     let at = c.args.at.now in
     let there = at_step c.args.program.now at.walk.place c.in-Two.is c.requires.step in
     let passed = on_ok_weaker c.undo2.result (λ h. passed-two c.args.program.now at.walk.place (g.T.Tracker.tracked at.tracker) c.args.found.now c.requires.passed c.in-Two.gate c.in-Two.a c.in-Two.b _ there h) c.undo2.ensures in
-    over_quiet c.args.lines.now c.undo2.result _ there refl (record { walk = refl; passed = passed; stays = stays_as refl refl refl })
+    one_gone_over c.args.to c.requires.to (over_quiet c.args.lines.now c.undo2.result _ there refl (record { walk = refl; passed = passed; stays = stays_as refl refl refl }))
 
 pub returns-in-Feedback : goal.returns-in-Feedback
 returns-in-Feedback g c =
-    over_quiet c.args.lines.now c.feedback.result _ (at_step c.args.program.now c.args.at.now.walk.place c.in-Feedback.is c.requires.step) refl c.feedback.ensures
+    one_gone_over c.args.to c.requires.to (over_quiet c.args.lines.now c.feedback.result _ (at_step c.args.program.now c.args.at.now.walk.place c.in-Feedback.is c.requires.step) refl c.feedback.ensures)
+
+pub returns-in-Collapse : goal.returns-in-Collapse
+returns-in-Collapse g c = one_gone_over c.args.to c.requires.to c.collapse.ensures
+
+pub returns-in-CollapseWord : goal.returns-in-CollapseWord
+returns-in-CollapseWord g c = one_gone_over c.args.to c.requires.to c.collapse-in-CollapseWord.ensures

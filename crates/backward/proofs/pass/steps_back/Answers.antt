@@ -1,20 +1,40 @@
-use Rattle.std.proofs.Common.{◌≡◌, ◌+◌, arith}
+use Rattle.std.proofs.Common.{◌≡◌, ◌+◌, subst, sym, arith}
+use Rattle.std.specs.Prelude.{reverse}
 use Rattle.std.proofs.lemmas.Result.{on_ok_weaker}
-use Rattle.backward.proofs.HeldLines.{gives_on, gives_step}
-use Rattle.backward.proofs.StepLemmas.{stays_on}
+use Rattle.backward.specs.private.Stretches.{Gives, lines_between}
+use Rattle.backward.proofs.PassSteps.{walk_at, walk_end}
 use Rattle.backward.proofs.pass.steps_back.Goals as goal
+use Rattle.backward.proofs.pass.steps_back.Goals.{In-None}
+use Rattle.backward.proofs.pass.steps_back.Given.{Over}
 
-pub returns-clause-lines : goal.returns-clause-lines
-returns-clause-lines g c =
-    let program = c.args.program.now.listing in
+pub go_over-requires-clause-step : goal.go_over-requires-clause-step
+go_over-requires-clause-step g c =
+    let walk = c.args.at.now.walk in
+    walk_at walk.program c.args.program.now walk.place c.previous_step.new.self.place c.previous_step.result c.in-Some.step c.requires.program c.in-Some.is c.previous_step.ensures.place c.previous_step.ensures.step
+
+pub returns-in-Some-clause-lines : goal.returns-in-Some-clause-lines
+returns-in-Some-clause-lines g c =
     let holds = g.L.LineStore.holds in
-    let mid = c.faults_back.new.at.walk.place in
-    let place = c.step_back.new.at.walk.place in
-    let back : mid ≡ place + 1 = omega (arith, c.step_back.ensures.place, c.if-place-to.false, c.place.ensures) in
-    on_ok_weaker c.step_back.result
-    (λ h. gives_on program place mid c.args.at.now.walk.place (holds c.args.lines.now) (holds c.faults_back.new.lines) (holds c.step_back.new.lines) (omega (arith, back)) c.faults_back.ensures.back c.in_ok-faults_back.ensures.lines
-    (gives_step program place mid (holds c.faults_back.new.lines) (holds c.step_back.new.lines) back h))
-    c.step_back.ensures.lines
+    let now = c.go_over.new in
+    let back : c.previous_step.new.self.place + 1 ≡ c.args.at.now.walk.place = omega (arith, c.previous_step.ensures.place, c.requires.to) in
+    on_ok_weaker c.go_over.result
+    (subst (λ k. Gives (holds c.args.lines.now) (holds now.lines) (reverse (lines_between c.args.program.now.listing now.at.walk.place k))) back)
+    c.go_over.ensures.lines
 
-pub returns-clause-stays : goal.returns-clause-stays
-returns-clause-stays g c = stays_on c.args.found.now c.faults_back.new.found c.step_back.new.found c.faults_back.ensures.stays c.step_back.ensures.stays
+-- there is a step
+none : (g : Over) (c : In-None g) → c.args.at.now.walk.place ≡ 0
+none g c =
+    let walk = c.args.at.now.walk in
+    walk_end walk.program c.args.program.now walk.place c.previous_step.result c.requires.program c.in-None.is c.requires.passed.within c.previous_step.ensures.step
+
+pub returns-in-None-clause-to : goal.returns-in-None-clause-to
+returns-in-None-clause-to g c = absurd (omega (arith, none g (goal.at.returns-in-None-clause-to g c).In-None, c.requires.to))
+
+pub returns-in-None-clause-some : goal.returns-in-None-clause-some
+returns-in-None-clause-some g c = absurd (omega (arith, none g (goal.at.returns-in-None-clause-some g c).In-None, c.requires.to))
+
+pub returns-in-None-clause-passed : goal.returns-in-None-clause-passed
+returns-in-None-clause-passed g c = absurd (omega (arith, none g (goal.at.returns-in-None-clause-passed g c).In-None, c.requires.to))
+
+pub returns-in-None-clause-lines : goal.returns-in-None-clause-lines
+returns-in-None-clause-lines g c = absurd (omega (arith, none g (goal.at.returns-in-None-clause-lines g c).In-None, c.requires.to))

@@ -2,7 +2,6 @@ use Rattle.std.proofs.Common.{◌≡◌, ◌<◌, ◌≤◌, [], inl, inr, lengt
 use Rattle.std.specs.Prelude.{All}
 use Rattle.backward.specs.private.Points.{ArePoints}
 use Rattle.backward.proofs.PointLemmas.{end_of_way, kept_on_way, left_behind, left_on_way, step_before}
-use Rattle.backward.proofs.PassFaults.{passed-faults}
 use Rattle.backward.proofs.StepLemmas.{stays_as, stays_on}
 use Rattle.backward.proofs.points.leave_points.Goals as goal
 use Rattle.backward.proofs.points.leave_points.Goals.{then-place-next+in_ok-leave, else-place-next}
@@ -20,12 +19,6 @@ loop-at-init g c =
       behind = λ k d lt. absurd (omega (arith, lt, ap length none));
     }
 
-pub step_back-requires-clause-passed : goal.step_back-requires-clause-passed
-step_back-requires-clause-passed g c =
-    let l = c.loop-at in
-    let at = l.at in
-    passed-faults c.args.program.now (g.T.Tracker.tracked at.tracker) l.found at.walk.program _ at.walk.place c.pass_faults_back.new.self.place (l.invariant.program_is ∙ c.requires.program) c.pass_faults_back.ensures.passed l.invariant.passed
-
 pub loop-at-preserved : goal.loop-at-preserved
 loop-at-preserved g c =
     let tracked = g.T.Tracker.tracked in
@@ -33,12 +26,11 @@ loop-at-preserved g c =
     let cut = c.args.at.now.walk.place in
     let l = c.loop-at in
     let place = l.at.walk.place in
-    let e = c.in_ok-step_back.ensures in
-    let at = c.step_back.new.at in
-    let passed = c.pass_faults_back.ensures.passed in
+    let e = c.in_ok-back_without_lines.ensures in
+    let at = c.back_without_lines.new.at in
     let points = c.if-place-next.points.items in
     let above : c.args.from < place = omega (arith, c.loop-at-test.true, c.place.ensures) in
-    let back : at.walk.place < place = omega (arith, e.place, above, passed.above, passed.below) in
+    let back : at.walk.place < place = e.back in
     let left : ArePoints program c.args.from cut points × All (λ p. place ≤ p.walk.place) points =
     elim c.if-place-next.branch [
       | then-place-next+in_ok-leave w ↦
@@ -55,11 +47,11 @@ loop-at-preserved g c =
           )
     ] in
     record {
-      program_is = e.program ∙ (c.pass_faults_back.ensures.program ∙ l.invariant.program_is);
-      above = omega (arith, e.place, above);
+      program_is = e.program ∙ l.invariant.program_is;
+      above = omega (arith, e.to, above);
       below = omega (arith, back, l.invariant.below);
       passed = e.passed;
-      stays = stays_on c.args.found.now l.found c.step_back.new.found l.invariant.stays e.stays;
+      stays = stays_on c.args.found.now l.found c.back_without_lines.new.found l.invariant.stays e.stays;
       points = inr (omega (arith, back, l.invariant.below), left.0);
       behind = step_before program at.walk.place place points back left.1;
     }
