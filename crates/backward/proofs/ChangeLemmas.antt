@@ -149,3 +149,14 @@ row_changed m r rows changes whole listed changed into is lt there all of_change
     row_of_parities m listed changed into toggled.parity
     ∙ (ap₂ xor_rows (ap (λ n. row_of_set n listed) (sym (all r [] lt)) ∙ own) (ap (row_of_set m) own_changes ∙ row_of_members m (get_or changes r []) (of_changes r [] there))
     ∙ (sym (row-with_changes rows changes r lt there) ∙ ap (λ (l : List (List Bool)). get_or l r []) is))
+
+-- where the program has no targets of a record, its targets are those that changed
+pub row_of_changes : (m r : ℕ) (rows changes whole : List (List Bool)) (listed : List ℕ) → with_changes rows changes ≡ whole → r < length rows → r < length changes
+    → All (λ row. length row ≡ m) rows → All (λ row. length row ≡ m) changes → row_of_set (length (get_or rows r [])) listed ≡ get_or rows r [] → length listed ≡ 0
+    → get_or changes r [] ≡ get_or whole r []
+row_of_changes m r rows changes whole [] is lt there all of_changes own none =
+    let change = get_or changes r [] in
+    let toggled : AreToggled [] (members change) (members change) = record { parity = λ t. refl; below = λ n own changed. changed } in
+    sym (row_of_members m change (of_changes r [] there))
+    ∙ row_changed m r rows changes whole [] (members change) (members change) is lt there all of_changes own refl toggled
+row_of_changes m r rows changes whole (x ∷ listed) is lt there all of_changes own none = absurd (omega (arith, none))

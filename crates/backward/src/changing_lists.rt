@@ -96,8 +96,12 @@ impl<'s, A: Allocator + Copy> ChangingLists<'s, A> {
             return make_ascend(self.alloc, self.targets, into);
         }
         put_back(&mut self.changes, &mut self.apart, self.targets, &self.set)?;
+        let listed = self.listed.get(rec);
+        if listed.is_empty() {
+            return self.changes.list(rec, into);
+        }
         self.changes.list(rec, &mut self.spare)?;
-        put_toggled(&self.spare, self.listed.get(rec), into)?;
+        put_toggled(&self.spare, listed, into)?;
         make_ascend(self.alloc, self.targets, into)
     }
 
