@@ -1,17 +1,18 @@
 -- Rows with changes.
-use Rattle.std.proofs.Common.{◌≡◌, ℕ, zero, suc, ◌+◌, ◌<◌, Bool, false, not, List, [], ◌∷◌, length, map, get_or, set, take, refl, ap, ap₂, subst, sym, ◌∙◌, arith, length-set}
+use Rattle.std.proofs.Common.{◌≡◌, ℕ, zero, suc, ◌+◌, ◌<◌, ◌≤◌, Bool, false, not, List, [], ◌∷◌, length, map, get_or, set, take, inl, inr, refl, ap, ap₂, subst, sym, ◌∙◌, arith, length-set}
 use Rattle.std.specs.Prelude.{All, Option, None, Some, replicate}
 use Rattle.std.specs.List.{range_with_len}
 use Rattle.std.proofs.Math.Nat.{suc_inj}
+use Rattle.std.proofs.lemmas.Bool.{cases_lt}
 use Rattle.std.proofs.lemmas.List.{get_or-replicate, length-replicate}
 use Rattle.bit_rows.specs.Rows.{xor_rows}
 use Rattle.pauli_word.specs.Parity.{exclusive_or}
 use Rattle.step_model.specs.Targets.{is_listed}
-use Rattle.backward.specs.private.Apart.{AreToggled, IsApart, IsChanged, with_apart, with_changes}
+use Rattle.backward.specs.private.Apart.{AreToggled, IsApart, IsChanged, IsUnchanged, with_apart, with_changes}
 use Rattle.backward.specs.private.Collapses.{toggled_each}
 use Rattle.backward.specs.private.RecordSets.{opened_sets}
 use Rattle.trackers.specs.TargetSets.{members, row_of_set, toggled}
-use Rattle.backward.proofs.ApartLemmas.{all-with_apart, row_of_members}
+use Rattle.backward.proofs.ApartLemmas.{all-with_apart, length-with_apart, row_of_members}
 use Rattle.trackers.proofs.SetLemmas.{none_added, row_of_no_set, toggled_sum}
 use Rattle.trackers.proofs.TransposedLemmas.{length-xor_rows}
 
@@ -83,6 +84,32 @@ as_long m r rows changes whole apart xs changed is low = (
   subst (All (λ row. length row ≡ m)) is (all-with_changes m rows (with_apart m changes apart xs) changed.long (all-with_apart m changes apart xs changed.of_changes.long)) r [] low,
 )
 
+-- ---- a record of which nothing changed
+no_changes : (rows changes : List (List Bool)) → length changes ≡ 0 → with_changes rows changes ≡ rows
+no_changes rows [] none = refl
+no_changes rows (c ∷ changes) none = absurd (omega (arith, none))
+
+pub row_unchanged : (m r : ℕ) (rows changes whole : List (List Bool)) (apart : Option ℕ) (xs : List ℕ) → IsChanged m rows changes apart xs → with_changes rows (with_apart m changes apart xs) ≡ whole → r < length rows
+    → IsUnchanged r changes apart → get_or rows r [] ≡ get_or whole r []
+row_unchanged m r rows changes whole apart xs changed is low same =
+    elim (cases_lt r (length changes)) as (λ _. get_or rows r [] ≡ get_or whole r []) [
+      | inl lt ↦
+          let row = get_or rows r [] in
+          let blank : get_or (with_apart m changes apart xs) r [] ≡ row_of_set m [] =
+          same lt m xs ∙ (ap (λ n. replicate n false) (changed.of_changes.long r [] lt) ∙ sym (row_of_no_set m)) in
+          sym (none_added row 0 m (changed.long r [] low))
+          ∙ (ap (xor_rows row) (sym blank)
+          ∙ (sym (row-with_changes rows (with_apart m changes apart xs) r low (omega (arith, lt, length-with_apart m changes apart xs)))
+          ∙ ap (λ (l : List (List Bool)). get_or l r []) is))
+      | inr le ↦
+          let none : length (with_apart m changes apart xs) ≡ 0 = length-with_apart m changes apart xs ∙ not_opened (length changes) (length rows) r le low changed.count in
+          ap (λ (l : List (List Bool)). get_or l r []) (sym (no_changes rows (with_apart m changes apart xs) none) ∙ is)
+    ]
+  where
+    not_opened : (n count r : ℕ) → n ≤ r → r < count → (0 < n → n ≡ count) → n ≡ 0
+    not_opened zero count r le low opened = refl
+    not_opened (suc n) count r le low opened = absurd (omega (arith, le, low, opened (omega arith)))
+
 -- ---- changes that begin empty, where there are none yet
 pub opened_apart : (m : ℕ) (rows changes : List (List Bool)) (apart : Option ℕ) (xs : List ℕ) → IsApart m changes apart xs → IsApart m (opened_sets (length rows) m changes) apart xs
 opened_apart m rows [] None xs h =
@@ -122,3 +149,14 @@ row_changed m r rows changes whole listed changed into is lt there all of_change
     row_of_parities m listed changed into toggled.parity
     ∙ (ap₂ xor_rows (ap (λ n. row_of_set n listed) (sym (all r [] lt)) ∙ own) (ap (row_of_set m) own_changes ∙ row_of_members m (get_or changes r []) (of_changes r [] there))
     ∙ (sym (row-with_changes rows changes r lt there) ∙ ap (λ (l : List (List Bool)). get_or l r []) is))
+
+-- where the program has no targets of a record, its targets are those that changed
+pub row_of_changes : (m r : ℕ) (rows changes whole : List (List Bool)) (listed : List ℕ) → with_changes rows changes ≡ whole → r < length rows → r < length changes
+    → All (λ row. length row ≡ m) rows → All (λ row. length row ≡ m) changes → row_of_set (length (get_or rows r [])) listed ≡ get_or rows r [] → length listed ≡ 0
+    → get_or changes r [] ≡ get_or whole r []
+row_of_changes m r rows changes whole [] is lt there all of_changes own none =
+    let change = get_or changes r [] in
+    let toggled : AreToggled [] (members change) (members change) = record { parity = λ t. refl; below = λ n own changed. changed } in
+    sym (row_of_members m change (of_changes r [] there))
+    ∙ row_changed m r rows changes whole [] (members change) (members change) is lt there all of_changes own refl toggled
+row_of_changes m r rows changes whole (x ∷ listed) is lt there all of_changes own none = absurd (omega (arith, none))

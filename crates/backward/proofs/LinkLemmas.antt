@@ -139,6 +139,17 @@ row_at m rec place links places rows is low read =
     within : rec < length places
     within = omega (arith, low, rows_counted m links places rows is)
 
+-- the row of a record that has no list
+pub row_of_no_list : (m rec place : ℕ) (links : List Link) (places : List ℕ) (rows : List (List Bool)) → rows_at m links places ≡ rows → rec < length rows → place ≡ get_or places rec place → place ≡ 0
+    → get_or rows rec [] ≡ replicate (length (get_or rows rec [])) false
+row_of_no_list m rec place links places rows is low read none =
+    let row : row_of_set m (list_at links place) ≡ get_or rows rec [] = row_at m rec place links places rows is low read in
+    let empty : list_at links place ≡ [] = ap (list_at links) none ∙ list_at-none links in
+    sym row
+    ∙ (ap (row_of_set m) empty
+    ∙ (row_of_no_set m
+    ∙ ap (λ n. replicate n false) (sym (sym (ap length row) ∙ length-row_of_set m (list_at links place)))))
+
 -- where targets are low in the view of a set, its record has a place, and they are below the number of targets
 pub low_at : (m rec place : ℕ) (links : List Link) (places : List ℕ) (rows : List (List Bool)) (targets : List ℕ) → rows_at m links places ≡ rows → rec < length rows → place ≡ get_or places rec place
     → All (λ t. t < length (get_or rows rec [])) targets → (rec < length places) × All (λ t. t < m) targets

@@ -159,3 +159,13 @@ tracked_before-collapse program c r steps terms reset rec is e fits =
 
 pub length-added : (targets : List ℕ) (letter : Letter) (q : ℕ) (t : Tracked) → length (added targets letter q t).words ≡ length t.words
 length-added targets letter q t = length-map-range_with_len (λ k. multiplied (is_among targets k) (lone_letter t.qubits q letter) (get_or t.words k [])) 0 (length t.words)
+
+-- words that no target lists stay
+added_none : (letter : Letter) (q : ℕ) (t : Tracked) → added [] letter q t ≡ t
+added_none letter q t =
+    ap (λ (words : List (List Letter)). record t { words = words }) (sym (fill_by_all (λ k. get_or t.words k []) t.words (length t.words) [] refl (λ k lt. refl)))
+
+pub times_none : (targets : List ℕ) (terms : List Term) (t : Tracked) → length targets ≡ 0 → times_terms targets terms t ≡ t
+times_none [] [] t none = refl
+times_none [] (term ∷ terms) t none = ap (times_terms [] terms) (added_none term.letter term.qubit t) ∙ times_none [] terms t none
+times_none (x ∷ targets) terms t none = absurd (omega (arith, none))

@@ -1,16 +1,18 @@
 -- One step gone back over: where a call failed, and where the step has no fault.
-use Rattle.std.proofs.Common.{◌≡◌, ℕ, ◌+◌, ◌≤◌, List, [], Result, Ok, Err, OnOk, refl, ap, subst, sym, ◌∙◌, arith}
+use Rattle.std.proofs.Common.{◌≡◌, ℕ, ◌+◌, ◌≤◌, Bool, List, [], Option, Result, Ok, Err, OnOk, refl, ap, subst, sym, ◌∙◌, arith}
 use Rattle.std.specs.Prelude.{reverse}
 use Rattle.std.proofs.lemmas.Result.{on_ok_weaker}
+use Rattle.step_model.specs.declared.step.Term.{Term}
 use Rattle.step_model.specs.ErrorModels.{ErrorLine}
 use Rattle.step_model.specs.Listing.{Listing, ListedStep}
 use Rattle.step_model.specs.WellFormed.{step_faults}
 use Rattle.programs.specs.Kept.{KeptProgram}
 use Rattle.programs.specs.Listed.{listed}
+use Rattle.programs.specs.declared.step.FaultName.{FaultName}
 use Rattle.programs.specs.declared.step.Step.{Step}
 use Rattle.backward.specs.declared.found.Found.{Found}
 use Rattle.backward.specs.declared.point.Point.{Point}
-use Rattle.backward.specs.private.Passes.{IsPassed, IsStepAt, Stays}
+use Rattle.backward.specs.private.Passes.{FitsCollapse, IsPassed, IsStepAt, Stays}
 use Rattle.backward.specs.private.Steps.{AreGoneOver, IsGoneOver, IsUndone}
 use Rattle.backward.specs.private.Stretches.{Gives, lines_between}
 use Rattle.backward.proofs.HeldLines.{gives_step}
@@ -32,6 +34,11 @@ stays_on a b c h k =
 pub passed_as : {A : Type 0} {program : Listing} {k m : ℕ} {t u : Tracked} {found : Found A} → k ≡ m → t ≡ u → IsPassed program m u found → IsPassed program k t found
 passed_as {program = program} {m = m} {t = t} {found = found} place words h = subst (λ k. IsPassed program k t found) (sym place) (subst (λ t. IsPassed program m t found) (sym words) h)
 
+pub fits_after : (program : KeptProgram) {t u : Tracked} {sets new_sets : List (List Bool)} {terms : List Term} {reset rec : Option ℕ} {flip : Option FaultName}
+    → t ≡ u → sets ≡ new_sets → FitsCollapse program t sets terms reset rec flip → FitsCollapse program u new_sets terms reset rec flip
+fits_after program {u = u} {sets = sets} {terms = terms} {reset = reset} {rec = rec} {flip = flip} words same h =
+    subst (λ new_sets. FitsCollapse program u new_sets terms reset rec flip) same (subst (λ t. FitsCollapse program t sets terms reset rec flip) words h)
+
 -- ---- what a call that failed leaves
 on_ok_failed : {T E : Type 0} (P : Type 0) {r : Result T E} {y : E} → r ≡ Err y → OnOk r P
 on_ok_failed P e = subst (λ r. OnOk r P) (sym e) tt
@@ -47,7 +54,7 @@ over_failed e walk stays store = record { undone = undone_failed e walk stays; l
 pub at_step : (program : KeptProgram) (place : ℕ) {step known : Step} → step ≡ known → IsStepAt program.listing place (listed program.listing.qubits program.products step) → IsStepAt program.listing place (listed program.listing.qubits program.products known)
 at_step program place is = subst (λ step. IsStepAt program.listing place (listed program.listing.qubits program.products step)) is
 
-on_ok_any : {T E P : Type 0} (r : Result T E) → P → OnOk r P
+pub on_ok_any : {T E P : Type 0} (r : Result T E) → P → OnOk r P
 on_ok_any (Ok x) p = p
 on_ok_any (Err e) p = tt
 

@@ -41,9 +41,9 @@ fn make_in_order<A: Allocator + Copy, B: Allocator + Copy>(
     set.list(list)
 }
 
-// Whether each target is greater than the one before it.
+/// Whether each target is greater than the one before it.
 #[inline(always)]
-fn ascends(targets: &[u32]) -> bool
+pub(crate) fn ascends(targets: &[u32]) -> bool
     ensures { result ≡ true → IsStrictlyIncreasing targets.now }
 {
     for i in 1..targets.len() {

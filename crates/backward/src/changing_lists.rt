@@ -1,11 +1,11 @@
 //! For each record the targets that list it, while feedback changes the set of one.
-ghost use Rattle.std.specs.Prelude.{◌≡◌, ◌<◌, ◌≤◌, ◌^◌, ◌++◌, ℕ, [], None, Some, length, slice_index_or, slice_set, take, All, IfOk, OnOk};
-ghost use Rattle.backward.specs.private.Apart.{toggled_at, with_apart, AreToggled, IsApart};
+ghost use Rattle.std.specs.Prelude.{◌≡◌, ◌<◌, ◌≤◌, ◌^◌, ◌++◌, ℕ, [], false, None, Some, length, slice_index_or, slice_set, take, All, IfOk, IfSome, OnOk};
+ghost use Rattle.backward.specs.private.Apart.{toggled_at, with_apart, AreToggled, IsApart, IsUnchanged};
 ghost use Rattle.backward.specs.private.Collapses.{toggled_each};
 ghost use Rattle.backward.specs.private.Passes.{listing_sets};
 ghost use Rattle.trackers.specs.TargetSets.{members};
 
-use crate::ascending::make_ascend;
+use crate::ascending::{ascends, make_ascend};
 use crate::listed_targets::ListedTargets;
 use crate::record_lists::RecordLists;
 use crate::targets::target_count;
@@ -66,6 +66,19 @@ impl<'s, A: Allocator + Copy> ChangingLists<'s, A> {
         })
     }
 
+    /// The targets in the set of a record, ascending, where they stand so in the program's own list: most do.
+    #[inline(always)]
+    pub(crate) fn lent(&self, rec: usize) -> Option<&[u32]>
+        requires { rec < length self.now }
+        ensures { IfSome result (λ list. list.now ≡ members (slice_index_or self.now rec [])) }
+    {
+        if is_changed(&self.changes, self.apart, rec) {
+            return None;
+        }
+        let listed = self.listed.get(rec);
+        if ascends(listed) { Some(listed) } else { None }
+    }
+
     /// Puts the targets in the set of a record into `into`, ascending, in place of what it held.
     pub(crate) fn list<B: Allocator + Copy>(
         &mut self,
@@ -83,8 +96,12 @@ impl<'s, A: Allocator + Copy> ChangingLists<'s, A> {
             return make_ascend(self.alloc, self.targets, into);
         }
         put_back(&mut self.changes, &mut self.apart, self.targets, &self.set)?;
+        let listed = self.listed.get(rec);
+        if listed.is_empty() {
+            return self.changes.list(rec, into);
+        }
         self.changes.list(rec, &mut self.spare)?;
-        put_toggled(&self.spare, self.listed.get(rec), into)?;
+        put_toggled(&self.spare, listed, into)?;
         make_ascend(self.alloc, self.targets, into)
     }
 
@@ -123,6 +140,18 @@ impl<'s, A: Allocator + Copy> ChangingLists<'s, A> {
             self.changes.empty(rec);
         }
     }
+}
+
+// Whether feedback may have changed the set of a record. There are no changes of any until it does.
+#[inline(always)]
+fn is_changed<'s, A: Allocator + Copy>(
+    changes: &RecordLists<'s, A>,
+    apart: Option<usize>,
+    rec: usize,
+) -> bool
+    ensures { result ≡ false → IsUnchanged rec changes.now apart }
+{
+    rec < changes.len() && (apart == Some(rec) || !changes.is_empty(rec))
 }
 
 // Appends these targets, which are few mostly.

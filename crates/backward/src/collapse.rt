@@ -25,6 +25,10 @@ pub(crate) fn undo_collapse<T: Tracker>(
         ≡ undone_collapse targets.now terms.now reset (T.tracked tracker.old)) }
 {
     clear_reset(tracker, reset);
+    // As at a reset that has no record.
+    if targets.is_empty() {
+        return Ok(());
+    }
     multiply(tracker, targets, terms)
 }
 

@@ -122,8 +122,19 @@ impl<'s, A: Allocator + Copy> Found<'s, A> {
         )
     }
 
-    /// Puts into the buffer the targets that list a record.
+    /// The targets that list a record, where they need not be put into the buffer.
     #[inline(always)]
+    pub(crate) fn lent_record(&self, rec: Option<u32>) -> Option<&[u32]>
+        requires { IfSome rec (λ r. r < length self.now.lists) }
+        ensures { IfSome result (λ list. list.now ≡ members_at self.now.lists rec) }
+    {
+        match rec {
+            Some(r) => self.lists.lent(r as usize),
+            None => Some(&[]),
+        }
+    }
+
+    /// Puts into the buffer the targets that list a record.
     pub(crate) fn list_record(&mut self, rec: Option<u32>) -> Result<(), AllocError>
         requires rec { IfSome rec (λ r. r < length self.old.lists) }
         requires long { All (λ set. length set ≤ 2 ^ 32) self.old.lists }

@@ -5,7 +5,8 @@ ghost use Rattle.step_model.specs.Targets.{targets_of};
 ghost use Rattle.programs.specs.Kept.{kept_at};
 ghost use Rattle.programs.specs.Listed.{listed};
 ghost use Rattle.programs.specs.Named.{IsNamed, IsNamedFlip, IsStepOf};
-ghost use Rattle.backward.specs.private.Passes.{IsCollapseAt, IsFeedbackAt, IsPassed, IsStepAt, Stays};
+ghost use Rattle.backward.specs.private.Collapses.{members_at, undone_collapse};
+ghost use Rattle.backward.specs.private.Passes.{FitsCollapse, IsCollapseAt, IsFeedbackAt, IsPassed, IsStepAt, Stays};
 ghost use Rattle.backward.specs.private.Steps.{AreGoneOver, IsGoneOver, IsUndone};
 ghost use Rattle.backward.specs.private.Stretches.{Gives, flip_line, line_for, lines_at, lines_between};
 
@@ -129,11 +130,93 @@ fn collapse<'s, 'p, 'a, A: Allocator + Copy, T: Tracker, L: LineStore>(
     program.well_formed();
     let targets = target_count(program);
     found.judge(targets, terms, &mut at.tracker)?;
-    found.list_record(rec)?;
-    note_flip(program, flip, found.hit.as_slice(), lines)?;
-    undo_collapse(&mut at.tracker, found.hit.as_slice(), terms, reset)?;
+    undo_lent(
+        program,
+        terms,
+        reset,
+        rec,
+        flip,
+        &mut at.tracker,
+        found,
+        lines,
+    )?;
     found.let_go(rec);
     Ok(())
+}
+
+// Gives the line of the fault that flips the record of a collapse, and takes the words back. Mostly the targets that list
+// the record are lent.
+#[inline(always)]
+fn undo_lent<'s, 'a, A: Allocator + Copy, T: Tracker, L: LineStore>(
+    program: &Program<'a, A>,
+    terms: &[Term],
+    reset: Option<u32>,
+    rec: Option<u32>,
+    flip: Option<FaultName>,
+    tracker: &mut T,
+    found: &mut Found<'s, A>,
+    lines: &mut L,
+) -> Result<(), AllocError>
+    requires fits { FitsCollapse program.now (T.tracked tracker.old) found.old.lists terms.now reset
+        rec flip }
+    requires store { L.program lines.old ≡ program.now }
+    ensures words { OnOk result
+        (T.tracked tracker.new
+        ≡ undone_collapse (members_at found.old.lists rec) terms.now reset
+        (T.tracked tracker.old)) }
+    ensures lines { OnOk result
+        (Gives (L.holds lines.old) (L.holds lines.new)
+        (flip_line program.now flip (members_at found.old.lists rec))) }
+    ensures store { L.program lines.new ≡ L.program lines.old }
+    ensures lists { OnOk result (found.new.lists ≡ found.old.lists) }
+    ensures settled { found.new.settled ≡ found.old.settled }
+    ensures keeps { found.new.keeps ≡ found.old.keeps }
+    ensures known { found.new.known ≡ found.old.known }
+    ensures latest { found.new.latest ≡ found.old.latest }
+    ensures left { found.new.left ≡ found.old.left }
+{
+    match found.lent_record(rec) {
+        Some(listed) => {
+            note_flip(program, flip, listed, lines)?;
+            undo_collapse(tracker, listed, terms, reset)
+        }
+        None => undo_changed(program, terms, reset, rec, flip, tracker, found, lines),
+    }
+}
+
+// The same where the targets have to be put into a buffer first, as after feedback.
+#[inline(never)]
+fn undo_changed<'s, 'a, A: Allocator + Copy, T: Tracker, L: LineStore>(
+    program: &Program<'a, A>,
+    terms: &[Term],
+    reset: Option<u32>,
+    rec: Option<u32>,
+    flip: Option<FaultName>,
+    tracker: &mut T,
+    found: &mut Found<'s, A>,
+    lines: &mut L,
+) -> Result<(), AllocError>
+    requires fits { FitsCollapse program.now (T.tracked tracker.old) found.old.lists terms.now reset
+        rec flip }
+    requires store { L.program lines.old ≡ program.now }
+    ensures words { OnOk result
+        (T.tracked tracker.new
+        ≡ undone_collapse (members_at found.old.lists rec) terms.now reset
+        (T.tracked tracker.old)) }
+    ensures lines { OnOk result
+        (Gives (L.holds lines.old) (L.holds lines.new)
+        (flip_line program.now flip (members_at found.old.lists rec))) }
+    ensures store { L.program lines.new ≡ L.program lines.old }
+    ensures lists { OnOk result (found.new.lists ≡ found.old.lists) }
+    ensures settled { found.new.settled ≡ found.old.settled }
+    ensures keeps { found.new.keeps ≡ found.old.keeps }
+    ensures known { found.new.known ≡ found.old.known }
+    ensures latest { found.new.latest ≡ found.old.latest }
+    ensures left { found.new.left ≡ found.old.left }
+{
+    found.list_record(rec)?;
+    note_flip(program, flip, found.hit.as_slice(), lines)?;
+    undo_collapse(tracker, found.hit.as_slice(), terms, reset)
 }
 
 // Gives the line of the fault that flips a record, where there is one.

@@ -96,6 +96,16 @@ impl<'s, A: Allocator + Copy> RecordLists<'s, A> {
         self.places.len()
     }
 
+    /// Whether nothing was put for a record since its set was empty.
+    #[inline(always)]
+    pub(crate) fn is_empty(&self, rec: usize) -> bool
+        requires { rec < length self.now }
+        ensures { let set = slice_index_or self.now rec [] in
+            result ≡ true → set ≡ replicate (length set) false }
+    {
+        self.places[rec] == 0
+    }
+
     /// Gives each of so many records an empty set of so many targets, where there is no record yet.
     pub(crate) fn open(&mut self, records: usize, targets: usize) -> Result<(), AllocError>
         ensures ok { OnOk result (self.new ≡ opened_sets records targets self.old) }

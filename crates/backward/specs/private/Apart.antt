@@ -2,7 +2,7 @@
 -- one record is apart from the others. (This project's own.)
 use Rattle.pauli_word.specs.Parity.{exclusive_or}
 use Rattle.step_model.specs.Targets.{is_listed}
-use Rattle.std.specs.Prelude.{◌≡◌, ◌<◌, ℕ, Bool, List, [], ◌∷◌, Option, None, Some, All, IfSome, length, slice_index_or, slice_set}
+use Rattle.std.specs.Prelude.{◌≡◌, ◌<◌, ℕ, Bool, false, List, [], ◌∷◌, Option, None, Some, All, IfSome, length, replicate, slice_index_or, slice_set}
 use Rattle.backward.specs.private.Collapses.{toggled_each}
 use Rattle.bit_rows.specs.Rows.{xor_rows}
 use Rattle.trackers.specs.TargetSets.{row_of_set}
@@ -17,6 +17,11 @@ pub record IsApart (m : ℕ) (rows : List (List Bool)) (apart : Option ℕ) (set
   pub long : All (λ row. length row ≡ m) rows
   pub within : IfSome apart (λ r. r < length rows)
   pub below : All (λ t. t < m) set
+
+-- a row is of none, if it is there, whatever the set is that is apart
+abbrev pub IsUnchanged : ℕ → List (List Bool) → Option ℕ → Type 0
+IsUnchanged r rows apart =
+    r < length rows → (m : ℕ) (set : List ℕ) → slice_index_or (with_apart m rows apart set) r [] ≡ replicate (length (slice_index_or rows r [])) false
 
 -- each number is listed with the parity that two lists together have
 pub record AreToggled (targets set toggled : List ℕ) : Type 0 where

@@ -1,7 +1,7 @@
 -- Going back over the steps of a program: the words that a tracker keeps, the targets that list each record, and where
 -- targets are random. A collapse is the projective measurement inside a measurement or a reset. (Gottesman,
 -- arXiv:quant-ph/9807006: words carried through a circuit.)
-use Rattle.std.specs.Prelude.{⊤, ◌≡◌, ℕ, ◌+◌, ◌<◌, ◌≤◌, Bool, true, false, List, [], ◌∷◌, map, length, take, drop, replicate, All, IfSome, Option, None, Some, option_map, if◌then◌else◌, slice_index_or}
+use Rattle.std.specs.Prelude.{⊤, ◌≡◌, ℕ, ◌+◌, ◌<◌, ◌≤◌, ◌^◌, Bool, true, false, List, [], ◌∷◌, map, length, take, drop, replicate, All, IfSome, Option, None, Some, option_map, if◌then◌else◌, slice_index_or}
 use Rattle.std.specs.List.{range_with_len}
 use Rattle.pauli_word.specs.declared.letter.Letter.{Letter}
 use Rattle.pauli_word.specs.Words.{lone_letter}
@@ -89,6 +89,16 @@ pub record IsCollapseAt (program : KeptProgram) (place : ℕ) (terms : List Term
   pub reset_fits : IfSome reset (λ q. q < program.listing.qubits)
   pub is_record : IsRecord program rec
   pub is_named : IsNamedFlip program flip
+
+-- words and sets are of all targets of a program, and what a collapse names is there
+pub record FitsCollapse (program : KeptProgram) (tracked : Tracked) (sets : List (List Bool)) (terms : List Term) (reset rec : Option ℕ) (flip : Option FaultName) : Type 0 where
+  pub words : length tracked.words ≡ length (targets_of program.listing)
+  pub long : All (λ set. length set ≡ length (targets_of program.listing)) sets
+  pub few : length (targets_of program.listing) ≤ 2 ^ 32
+  pub is_record : IfSome rec (λ r. r < length sets)
+  pub is_named : IsNamedFlip program flip
+  pub terms_fit : All (λ term. term.qubit < tracked.qubits) terms
+  pub reset_fits : IfSome reset (λ q. q < tracked.qubits)
 
 -- a letter that is applied where a record is 1 is right after a place
 pub record IsFeedbackAt (program : Listing) (place : ℕ) (term : Term) (rec : ℕ) : Type 0 where

@@ -1,6 +1,5 @@
 use Rattle.std.proofs.Common.{◌≡◌, ◌+◌, ◌-◌, ◌<◌, Bool, List, length, drop, refl, ap, subst, sym, ◌∙◌, arith}
 use Rattle.std.specs.Prelude.{All, IfSome}
-use Rattle.std.specs.List.Sorted.{IsStrictlyIncreasing}
 use Rattle.std.proofs.lemmas.Result.{err_from_is_err_and}
 use Rattle.step_model.specs.Targets.{targets_of}
 use Rattle.programs.specs.Listed.{recorded}
@@ -9,8 +8,8 @@ use Rattle.backward.specs.private.Passes.{IsJudged, opened}
 use Rattle.backward.specs.private.Stretches.{Gives}
 use Rattle.trackers.specs.Tracked.{anticommuting}
 use Rattle.backward.proofs.PassSteps.{collapse_is_left, collapse_judged, collapse_keeps, collapse_line, collapse_lists, collapse_words, holds_same, latest_of_size, words_of_size}
-use Rattle.backward.proofs.RecordMembers.{members_at-ascend, members_at-within, record_has_set, record_named}
-use Rattle.backward.proofs.StepLemmas.{over_failed, stays_as}
+use Rattle.backward.proofs.RecordMembers.{record_has_set, record_named}
+use Rattle.backward.proofs.StepLemmas.{fits_after, over_failed, stays_as}
 use Rattle.backward.proofs.pass.collapse.Goals as goal
 
 pub judge-requires-clause-words : goal.judge-requires-clause-words
@@ -31,57 +30,41 @@ judge-requires-clause-long g c =
     let f = c.args.found.now in
     λ e. subst (λ n. length (opened n f.latest.items) ≡ n) (sym c.target_count-targets.ensures.count) (latest_of_size program f.settled (c.args.at.now.walk.place + 1) f.latest.items f.left c.requires.passed.judged e)
 
-pub note_flip-requires-clause-named : goal.note_flip-requires-clause-named
-note_flip-requires-clause-named g c =
-    let program = c.args.program.now in
-    let f = c.args.found.now in
-    let lists = c.requires.passed.lists in
-    let hit = c.as_slice.ensures.value ∙ (c.in_ok-list_record.ensures.hit ∙ ap (λ l. members_at l c.args.rec) c.judge.ensures.lists) in
-    subst (All (λ t. t < length (targets_of program.listing))) (sym hit)
-    (members_at-within f.lists c.args.rec (length (targets_of program.listing)) (record_has_set c.args.rec program.listing.records (length f.lists) lists.size (record_named program c.args.rec c.requires.step.is_record)) lists.long)
-
-pub undo_collapse-requires-clause-ascending : goal.undo_collapse-requires-clause-ascending
-undo_collapse-requires-clause-ascending g c =
-    let hit = c.as_slice-2.ensures.value ∙ (c.in_ok-list_record.ensures.hit ∙ ap (λ l. members_at l c.args.rec) c.judge.ensures.lists) in
-    subst IsStrictlyIncreasing (sym hit) (members_at-ascend c.args.found.now.lists c.args.rec)
-
-pub undo_collapse-requires-clause-named : goal.undo_collapse-requires-clause-named
-undo_collapse-requires-clause-named g c =
-    let program = c.args.program.now in
+pub undo_lent-requires-clause-fits : goal.undo_lent-requires-clause-fits
+undo_lent-requires-clause-fits g c =
+    let program = c.args.program.now.listing in
     let at = c.args.at.now in
     let f = c.args.found.now in
+    let step = c.requires.step in
     let lists = c.requires.passed.lists in
-    let count = ap (λ t. length t.words) c.judge.ensures.words ∙ words_of_size program.listing (drop (at.walk.place + 1) program.listing.steps) (g.T.Tracker.tracked at.tracker) c.requires.passed.words in
-    let hit = c.as_slice-2.ensures.value ∙ (c.in_ok-list_record.ensures.hit ∙ ap (λ l. members_at l c.args.rec) c.judge.ensures.lists) in
-    subst (λ n. All (λ t. t < n) c.as_slice-2.result.now) (sym count)
-    (subst (All (λ t. t < length (targets_of program.listing))) (sym hit)
-    (members_at-within f.lists c.args.rec (length (targets_of program.listing)) (record_has_set c.args.rec program.listing.records (length f.lists) lists.size (record_named program c.args.rec c.requires.step.is_record)) lists.long))
+    let tracked = g.T.Tracker.tracked at.tracker in
+    let qubits : tracked.qubits ≡ program.qubits = ap (λ t. t.qubits) c.requires.passed.words in
+    fits_after c.args.program.now (sym c.judge.ensures.words) (sym c.judge.ensures.lists)
+    record {
+      words = words_of_size program (drop (at.walk.place + 1) program.steps) tracked c.requires.passed.words;
+      long = lists.long;
+      few = omega (arith, c.target_count-targets.ensures.count, c.target_count-targets.ensures.few);
+      is_record = record_has_set c.args.rec program.records (length f.lists) lists.size (record_named c.args.program.now c.args.rec step.is_record);
+      is_named = step.is_named;
+      terms_fit = subst (λ n. All (λ term. term.qubit < n) c.args.terms.now) (sym qubits) step.terms_fit;
+      reset_fits = subst (λ n. IfSome c.args.reset (λ q. q < n)) (sym qubits) step.reset_fits;
+    }
 
 pub let_go-requires : goal.let_go-requires
 let_go-requires g c =
     let program = c.args.program.now in
     let f = c.args.found.now in
     let lists = c.requires.passed.lists in
-    subst (λ (sets : List (List Bool)). IfSome c.args.rec (λ r. r < length sets)) (sym (c.in_ok-list_record.ensures.lists ∙ c.judge.ensures.lists))
+    subst (λ (sets : List (List Bool)). IfSome c.args.rec (λ r. r < length sets)) (sym (c.in_ok-undo_lent.ensures.lists ∙ c.judge.ensures.lists))
     (record_has_set c.args.rec program.listing.records (length f.lists) lists.size (record_named program c.args.rec c.requires.step.is_record))
 
 pub returns-in_err-judge : goal.returns-in_err-judge
 returns-in_err-judge g c = over_failed (err_from_is_err_and c.from_residual.result c.from_residual.ensures.1).1 refl (stays_as c.judge.ensures.settled c.judge.ensures.keeps c.judge.ensures.known) refl
 
-pub returns-in_err-list_record : goal.returns-in_err-list_record
-returns-in_err-list_record g c =
-    let e = c.list_record.ensures in
-    over_failed (err_from_is_err_and c.from_residual-in_err-list_record.result c.from_residual-in_err-list_record.ensures.1).1 refl (stays_as (e.settled ∙ c.judge.ensures.settled) (e.keeps ∙ c.judge.ensures.keeps) (e.known ∙ c.judge.ensures.known)) refl
-
-pub returns-in_err-note_flip : goal.returns-in_err-note_flip
-returns-in_err-note_flip g c =
-    let e = c.list_record.ensures in
-    over_failed (err_from_is_err_and c.from_residual-in_err-note_flip.result c.from_residual-in_err-note_flip.ensures.1).1 refl (stays_as (e.settled ∙ c.judge.ensures.settled) (e.keeps ∙ c.judge.ensures.keeps) (e.known ∙ c.judge.ensures.known)) c.note_flip.ensures.store
-
-pub returns-in_err-undo_collapse : goal.returns-in_err-undo_collapse
-returns-in_err-undo_collapse g c =
-    let e = c.list_record.ensures in
-    over_failed (err_from_is_err_and c.from_residual-in_err-undo_collapse.result c.from_residual-in_err-undo_collapse.ensures.1).1 refl (stays_as (e.settled ∙ c.judge.ensures.settled) (e.keeps ∙ c.judge.ensures.keeps) (e.known ∙ c.judge.ensures.known)) c.note_flip.ensures.store
+pub returns-in_err-undo_lent : goal.returns-in_err-undo_lent
+returns-in_err-undo_lent g c =
+    let e = c.undo_lent.ensures in
+    over_failed (err_from_is_err_and c.from_residual-in_err-undo_lent.result c.from_residual-in_err-undo_lent.ensures.1).1 refl (stays_as (e.settled ∙ c.judge.ensures.settled) (e.keeps ∙ c.judge.ensures.keeps) (e.known ∙ c.judge.ensures.known)) e.store
 
 pub returns : goal.returns
 returns g c =
@@ -93,16 +76,16 @@ returns g c =
     let holds = g.L.LineStore.holds in
     let fits = c.well_formed-2.ensures.listing in
     let now = c.let_go.new.self in
-    let settled = c.list_record.ensures.settled ∙ c.judge.ensures.settled in
-    let known = c.list_record.ensures.known ∙ c.judge.ensures.known in
-    let lists = c.in_ok-list_record.ensures.lists ∙ c.judge.ensures.lists in
-    let hit = c.as_slice-2.ensures.value ∙ (c.in_ok-list_record.ensures.hit ∙ ap (λ l. members_at l c.args.rec) c.judge.ensures.lists) in
+    let settled = c.undo_lent.ensures.settled ∙ c.judge.ensures.settled in
+    let known = c.undo_lent.ensures.known ∙ c.judge.ensures.known in
+    let lists = c.in_ok-undo_lent.ensures.lists ∙ c.judge.ensures.lists in
+    let hit = ap (λ l. members_at l c.args.rec) c.judge.ensures.lists in
+    let members = members_at c.judge.new.self.lists c.args.rec in
     let judged = collapse_judged program place c.args.terms.now c.args.reset c.args.rec c.args.flip tracked f fits c.requires.step c.requires.passed now.latest.items now.left
-    (λ e. ap (λ l. opened (length (targets_of program.listing)) l.items) (c.let_go.ensures.latest ∙ c.list_record.ensures.latest)
+    (λ e. ap (λ l. opened (length (targets_of program.listing)) l.items) (c.let_go.ensures.latest ∙ c.undo_lent.ensures.latest)
     ∙ subst (λ n. opened n c.judge.new.self.latest.items ≡ noted (f.left - 1) (anticommuting c.args.terms.now tracked) (opened n f.latest.items)) c.target_count-targets.ensures.count (c.in_ok-judge.ensures.latest e))
-    (λ e. c.let_go.ensures.left ∙ (c.list_record.ensures.left ∙ c.in_ok-judge.ensures.left e)) in
-    let keeps = c.list_record.ensures.keeps ∙ c.judge.ensures.keeps in
-    let line = c.as_slice.ensures.value ∙ (c.in_ok-list_record.ensures.hit ∙ ap (λ l. members_at l c.args.rec) c.judge.ensures.lists) in
+    (λ e. c.let_go.ensures.left ∙ (c.undo_lent.ensures.left ∙ c.in_ok-judge.ensures.left e)) in
+    let keeps = c.undo_lent.ensures.keeps ∙ c.judge.ensures.keeps in
     record {
       undone =
           record {
@@ -110,7 +93,7 @@ returns g c =
             passed =
                 record {
                   within = omega (arith, c.requires.passed.within);
-                  words = collapse_words program place c.args.terms.now c.args.reset c.args.rec c.args.flip tracked f fits c.requires.step c.requires.passed c.as_slice-2.result.now _ hit (c.in_ok-undo_collapse.ensures ∙ ap (undone_collapse c.as_slice-2.result.now c.args.terms.now c.args.reset) c.judge.ensures.words);
+                  words = collapse_words program place c.args.terms.now c.args.reset c.args.rec c.args.flip tracked f fits c.requires.step c.requires.passed members _ hit (c.in_ok-undo_lent.ensures.words ∙ ap (undone_collapse members c.args.terms.now c.args.reset) c.judge.ensures.words);
                   lists = c.let_go.ensures.lists program.listing place (collapse_keeps program place c.args.terms.now c.args.reset c.args.rec c.args.flip tracked f fits c.requires.step c.requires.passed _ known)
                       (holds_same program.listing _ _ place _ _ _ _ settled known lists (collapse_lists program place c.args.terms.now c.args.reset c.args.rec c.args.flip tracked f fits c.requires.step c.requires.passed));
                   judged = subst (λ s. IsJudged program.listing s place now.latest.items now.left) (sym (c.let_go.ensures.settled ∙ settled)) judged;
@@ -118,8 +101,8 @@ returns g c =
             stays = record { settled = c.let_go.ensures.settled ∙ settled; keeps = c.let_go.ensures.keeps ∙ keeps; known = λ e. c.let_go.ensures.known (keeps ∙ e) ∙ known };
           };
       lines =
-          subst (Gives (holds c.args.lines.now) (holds c.note_flip.new.lines))
-          (collapse_line program place c.args.terms.now c.args.reset c.args.rec c.args.flip tracked f fits c.requires.step c.requires.passed c.as_slice.result.now line)
-          c.in_ok-note_flip.ensures.lines;
-      store = c.note_flip.ensures.store;
+          subst (Gives (holds c.args.lines.now) (holds c.undo_lent.new.lines))
+          (collapse_line program place c.args.terms.now c.args.reset c.args.rec c.args.flip tracked f fits c.requires.step c.requires.passed members hit)
+          c.in_ok-undo_lent.ensures.lines;
+      store = c.undo_lent.ensures.store;
     }

@@ -1,9 +1,10 @@
 use Rattle.std.proofs.Common.{◌≡◌, ◌<◌, ◌∙◌, [], length, get_or, ap, subst, sym, arith}
 use Rattle.std.specs.Prelude.{All}
+use Rattle.std.proofs.lemmas.Bool.{eqb-true}
 use Rattle.std.proofs.lemmas.Result.{on_ok_weaker}
 use Rattle.backward.specs.private.Apart.{with_apart, with_changes}
 use Rattle.trackers.specs.TargetSets.{members}
-use Rattle.backward.proofs.ChangeLemmas.{as_long, row_changed}
+use Rattle.backward.proofs.ChangeLemmas.{as_long, row_changed, row_of_changes}
 use Rattle.trackers.proofs.RangeLemmas.{members_within}
 use Rattle.backward.proofs.changing_lists.ChangingLists.list.Given.{Over}
 use Rattle.backward.proofs.changing_lists.ChangingLists.list.Goals as goal
@@ -29,8 +30,16 @@ list-requires-clause-long g c =
     let at = goal.at.list-requires-clause-long g c in
     omega (arith, c.put_back.ensures.apart.long c.args.rec [] (there g at.After-put_back), (known g at.After-self).1, c.requires.long)
 
-pub get-requires-2 : goal.get-requires-2
-get-requires-2 g c = (known g (goal.at.get-requires-2 g c).After-self).0
+pub list-requires-2-clause-rec : goal.list-requires-2-clause-rec
+list-requires-2-clause-rec g c = there g (goal.at.list-requires-2-clause-rec g c).After-put_back
+
+pub list-requires-2-clause-long : goal.list-requires-2-clause-long
+list-requires-2-clause-long g c =
+    let at = goal.at.list-requires-2-clause-long g c in
+    omega (arith, c.put_back.ensures.apart.long c.args.rec [] (there g at.After-put_back), (known g at.After-self).1, c.requires.long)
+
+pub get-listed-requires : goal.get-listed-requires
+get-listed-requires g c = (known g (goal.at.get-listed-requires g c).After-self).0
 
 pub make_ascend-requires-2-clause-few : goal.make_ascend-requires-2-clause-few
 make_ascend-requires-2-clause-few g c = omega (arith, (known g (goal.at.make_ascend-requires-2-clause-few g c).After-self).1, c.requires.long)
@@ -42,9 +51,20 @@ make_ascend-requires-2-clause-below g c =
     let rec = c.args.rec in
     let change = get_or c.put_back.new.lists rec [] in
     c.in_ok-put_toggled.ensures.below m
-    (subst (λ n. All (λ t. t < n) c.get-2.result.now) (c.self.invariant.long rec [] (known g at.After-self).0) c.get-2.ensures.below)
+    (subst (λ n. All (λ t. t < n) c.get-listed.result.now) (c.self.invariant.long rec [] (known g at.After-self).0) c.get-listed.ensures.below)
     (subst (All (λ t. t < m)) (sym (c.deref-2.ensures.value ∙ c.in_ok-list.ensures))
     (subst (λ n. All (λ t. t < n) (members change)) (c.put_back.ensures.apart.long rec [] (there g at.After-put_back)) (members_within change)))
+
+pub returns-then-is_empty-clause-list : goal.returns-then-is_empty-clause-list
+returns-then-is_empty-clause-list g c =
+    let at = goal.at.returns-then-is_empty-clause-list g c in
+    let m = c.self.inside.targets in
+    let listed = c.self.inside.listed in
+    let is = ap (with_changes listed) (c.in_ok-put_back.ensures.lists ∙ ap (with_apart m c.self.inside.changes c.self.inside.apart) c.deref.ensures.value) ∙ c.self.view_is in
+    let none = eqb-true (length c.get-listed.result.now) 0 (sym c.is_empty.ensures ∙ c.if-is_empty.true) in
+    let row = row_of_changes m c.args.rec listed c.put_back.new.lists c.args.self.now c.get-listed.result.now is (known g at.After-self).0 (there g at.After-put_back)
+    c.self.invariant.long c.put_back.ensures.apart.long c.get-listed.ensures.set none in
+    on_ok_weaker c.list.result (λ h. h ∙ ap members row) c.list.ensures
 
 pub returns-clause-list : goal.returns-clause-list
 returns-clause-list g c =
@@ -53,6 +73,6 @@ returns-clause-list g c =
     let listed = c.self.inside.listed in
     let changes = c.put_back.new.lists in
     let is = ap (with_changes listed) (c.in_ok-put_back.ensures.lists ∙ ap (with_apart m c.self.inside.changes c.self.inside.apart) c.deref.ensures.value) ∙ c.self.view_is in
-    let row = row_changed m c.args.rec listed changes c.args.self.now c.get-2.result.now c.deref-2.result.now c.put_toggled.new.into.items is (known g at.After-self).0 (there g at.After-put_back)
-    c.self.invariant.long c.put_back.ensures.apart.long c.get-2.ensures.set (c.deref-2.ensures.value ∙ c.in_ok-list.ensures) c.in_ok-put_toggled.ensures in
+    let row = row_changed m c.args.rec listed changes c.args.self.now c.get-listed.result.now c.deref-2.result.now c.put_toggled.new.into.items is (known g at.After-self).0 (there g at.After-put_back)
+    c.self.invariant.long c.put_back.ensures.apart.long c.get-listed.ensures.set (c.deref-2.ensures.value ∙ c.in_ok-list.ensures) c.in_ok-put_toggled.ensures in
     on_ok_weaker c.make_ascend-2.result (λ h. h ∙ ap members row) c.make_ascend-2.ensures

@@ -1,0 +1,42 @@
+use Rattle.std.proofs.Common.{◌<◌, length, ap, subst, sym, ◌∙◌, arith}
+use Rattle.std.specs.Prelude.{All}
+use Rattle.std.specs.List.Sorted.{IsStrictlyIncreasing}
+use Rattle.std.proofs.lemmas.Result.{on_ok_weaker}
+use Rattle.step_model.specs.Targets.{targets_of}
+use Rattle.backward.specs.private.Collapses.{undone_collapse}
+use Rattle.backward.specs.private.Stretches.{Gives, flip_line}
+use Rattle.backward.proofs.RecordMembers.{members_at-ascend, members_at-within}
+use Rattle.backward.proofs.StepLemmas.{on_ok_any}
+use Rattle.backward.proofs.pass.undo_changed.Goals as goal
+
+pub list_record-requires-clause-long : goal.list_record-requires-clause-long
+list_record-requires-clause-long g c k d lt = omega (arith, c.requires.fits.long k d lt, c.requires.fits.few)
+
+pub note_flip-requires-clause-named : goal.note_flip-requires-clause-named
+note_flip-requires-clause-named g c =
+    let fits = c.requires.fits in
+    let n = length (targets_of c.args.program.now.listing) in
+    subst (All (λ t. t < n)) (sym (c.as_slice.ensures.value ∙ c.in_ok-list_record.ensures.hit)) (members_at-within c.args.found.now.lists c.args.rec n fits.is_record fits.long)
+
+pub undo_collapse-requires-clause-ascending : goal.undo_collapse-requires-clause-ascending
+undo_collapse-requires-clause-ascending g c =
+    subst IsStrictlyIncreasing (sym (c.as_slice-2.ensures.value ∙ c.in_ok-list_record.ensures.hit)) (members_at-ascend c.args.found.now.lists c.args.rec)
+
+pub undo_collapse-requires-clause-named : goal.undo_collapse-requires-clause-named
+undo_collapse-requires-clause-named g c =
+    let fits = c.requires.fits in
+    let n = length (targets_of c.args.program.now.listing) in
+    subst (λ m. All (λ t. t < m) c.as_slice-2.result.now) (sym fits.words)
+    (subst (All (λ t. t < n)) (sym (c.as_slice-2.ensures.value ∙ c.in_ok-list_record.ensures.hit)) (members_at-within c.args.found.now.lists c.args.rec n fits.is_record fits.long))
+
+pub returns-clause-words : goal.returns-clause-words
+returns-clause-words g c =
+    on_ok_weaker c.undo_collapse.result (λ h. h ∙ ap (λ l. undone_collapse l c.args.terms.now c.args.reset (g.T.Tracker.tracked c.args.tracker.now)) (c.as_slice-2.ensures.value ∙ c.in_ok-list_record.ensures.hit)) c.undo_collapse.ensures
+
+pub returns-clause-lines : goal.returns-clause-lines
+returns-clause-lines g c =
+    on_ok_any c.undo_collapse.result
+    (subst (λ l. Gives (g.L.LineStore.holds c.args.lines.now) (g.L.LineStore.holds c.note_flip.new.lines) (flip_line c.args.program.now c.args.flip l)) (c.as_slice.ensures.value ∙ c.in_ok-list_record.ensures.hit) c.in_ok-note_flip.ensures.lines)
+
+pub returns-clause-lists : goal.returns-clause-lists
+returns-clause-lists g c = on_ok_any c.undo_collapse.result c.in_ok-list_record.ensures.lists

@@ -1,0 +1,36 @@
+use Rattle.std.proofs.Common.{◌<◌, length, ap, subst, sym, ◌∙◌}
+use Rattle.std.specs.Prelude.{All}
+use Rattle.std.specs.List.Sorted.{IsStrictlyIncreasing}
+use Rattle.std.proofs.lemmas.Result.{on_ok_weaker}
+use Rattle.step_model.specs.Targets.{targets_of}
+use Rattle.backward.specs.private.Collapses.{undone_collapse}
+use Rattle.backward.specs.private.Stretches.{Gives, flip_line}
+use Rattle.backward.proofs.RecordMembers.{members_at-ascend, members_at-within}
+use Rattle.backward.proofs.StepLemmas.{on_ok_any}
+use Rattle.backward.proofs.pass.undo_lent.Goals as goal
+
+pub note_flip-requires-clause-named : goal.note_flip-requires-clause-named
+note_flip-requires-clause-named g c =
+    let fits = c.requires.fits in
+    let n = length (targets_of c.args.program.now.listing) in
+    subst (All (λ t. t < n)) (sym c.in-Some.ensures) (members_at-within c.args.found.now.lists c.args.rec n fits.is_record fits.long)
+
+pub undo_collapse-requires-clause-ascending : goal.undo_collapse-requires-clause-ascending
+undo_collapse-requires-clause-ascending g c =
+    subst IsStrictlyIncreasing (sym c.in-Some.ensures) (members_at-ascend c.args.found.now.lists c.args.rec)
+
+pub undo_collapse-requires-clause-named : goal.undo_collapse-requires-clause-named
+undo_collapse-requires-clause-named g c =
+    let fits = c.requires.fits in
+    let n = length (targets_of c.args.program.now.listing) in
+    subst (λ m. All (λ t. t < m) c.in-Some.listed.now) (sym fits.words)
+    (subst (All (λ t. t < n)) (sym c.in-Some.ensures) (members_at-within c.args.found.now.lists c.args.rec n fits.is_record fits.long))
+
+pub returns-in_ok-note_flip-in-Some-clause-words : goal.returns-in_ok-note_flip-in-Some-clause-words
+returns-in_ok-note_flip-in-Some-clause-words g c =
+    on_ok_weaker c.undo_collapse.result (λ h. h ∙ ap (λ l. undone_collapse l c.args.terms.now c.args.reset (g.T.Tracker.tracked c.args.tracker.now)) c.in-Some.ensures) c.undo_collapse.ensures
+
+pub returns-in_ok-note_flip-in-Some-clause-lines : goal.returns-in_ok-note_flip-in-Some-clause-lines
+returns-in_ok-note_flip-in-Some-clause-lines g c =
+    on_ok_any c.undo_collapse.result
+    (subst (λ l. Gives (g.L.LineStore.holds c.args.lines.now) (g.L.LineStore.holds c.note_flip.new.lines) (flip_line c.args.program.now c.args.flip l)) c.in-Some.ensures c.in_ok-note_flip-in-Some.ensures.lines)
