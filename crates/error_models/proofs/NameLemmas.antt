@@ -1,10 +1,12 @@
 -- The texts of targets, one after another, and how long each is.
-use Rattle.std.proofs.Common.{◌≡◌, ℕ, zero, suc, ◌+◌, ◌-◌, ◌<◌, ◌≤◌, nat_lt, Bool, true, false, if◌then◌else◌, List, [], ◌∷◌, ◌++◌, length, get_or, drop, ltb-true, ltb-false, refl, ap, ap₂, sym, ◌∙◌, arith, append_assoc}
-use Rattle.std.specs.Prelude.{codes, decimal}
+use Rattle.std.proofs.Common.{◌≡◌, ℕ, zero, suc, ◌+◌, ◌-◌, ◌<◌, ◌≤◌, nat_lt, Bool, true, false, if◌then◌else◌, List, [], ◌∷◌, ◌++◌, length, get_or, take, drop, ltb-true, ltb-false, refl, ap, ap₂, sym, ◌∙◌, arith, append_assoc}
+use Rattle.std.specs.Prelude.{codes, decimal, reverse}
+use Rattle.std.proofs.Math.Seq.{take-suc}
 use Rattle.std.proofs.lemmas.Fmt.{length-decimal-le}
-use Rattle.std.proofs.lemmas.List.{drop_more}
+use Rattle.std.proofs.lemmas.List.{drop_more, reverse-append}
 use Rattle.error_models.specs.ErrorLines.{text_at}
 use Rattle.error_models.specs.ModelText.{target_text, targets_text}
+use Rattle.error_models.proofs.ErrorLineLemmas.{text_at-get_or}
 
 six_digits : (n : ℕ) → n < 1000000 → length (decimal n) ≤ 6
 six_digits n h = length-decimal-le 6 n (omega arith) (omega (arith, h)) (omega (arith, h))
@@ -25,6 +27,10 @@ texts_pushed f [] text are is (suc t) h = absurd (omega (arith, h))
 texts_pushed f (other ∷ texts) text are is zero h = are zero (omega arith)
 texts_pushed f (other ∷ texts) text are is (suc t) h = texts_pushed (λ k. f (suc k)) texts text (λ k l. are (suc k) (omega (arith, l))) is t (omega (arith, h))
 
+-- the text of a target, as it is read from texts of which each is that of its place
+pub name_read : (texts slice : List (List ℕ)) (name d : List ℕ) (t : ℕ) → name ≡ get_or slice t d → slice ≡ texts → t < length texts → name ≡ text_at texts t
+name_read texts slice name d t read same within = read ∙ (ap (λ names. get_or names t d) same ∙ sym (text_at-get_or texts t d within))
+
 -- a target more, before those behind it
 pub one_target_more : (detectors : ℕ) (targets name rest : List ℕ) (i left d : ℕ) → i + 1 ≡ left → i < length targets → name ≡ target_text detectors (get_or targets i d)
     → name ++ (targets_text detectors (drop left targets) ++ rest) ≡ targets_text detectors (drop i targets) ++ rest
@@ -32,3 +38,12 @@ one_target_more detectors targets name rest i left d next within is =
     sym (append_assoc name (targets_text detectors (drop left targets)) rest)
     ∙ ap (λ l. l ++ rest) (ap₂ (λ l n. l ++ targets_text detectors (drop n targets)) is (sym next)
     ∙ ap (targets_text detectors) (sym (drop_more targets i d within)))
+
+-- a target more of those that come from the last to the first, before those that came before it
+pub one_reversed_more : (detectors : ℕ) (targets name rest : List ℕ) (i next d : ℕ) → next ≡ suc i → i < length targets → name ≡ target_text detectors (get_or targets i d)
+    → name ++ (targets_text detectors (reverse (take i targets)) ++ rest) ≡ targets_text detectors (reverse (take next targets)) ++ rest
+one_reversed_more detectors targets name rest i next d next_is within is =
+    let target = get_or targets i d in
+    sym (append_assoc name (targets_text detectors (reverse (take i targets))) rest)
+    ∙ ap (λ l. l ++ rest) (ap (λ l. l ++ targets_text detectors (reverse (take i targets))) is
+    ∙ ap (targets_text detectors) (sym (reverse-append (take i targets) (target ∷ [])) ∙ ap reverse (sym (take-suc targets i d within) ∙ ap (λ n. take n targets) (sym next_is))))

@@ -1,8 +1,9 @@
 //! The text of error lines that are found from the last to the first.
-ghost use Rattle.std.specs.Prelude.{◌≡◌, ◌<◌, ◌≤◌, ◌+◌, ◌-◌, ◌++◌, [], All, length, min, IfOk, OnOk};
+ghost use Rattle.std.specs.Prelude.{◌≡◌, ◌<◌, ◌≤◌, ◌+◌, ◌-◌, ◌++◌, [], All, length, min, reverse, IfOk, OnOk};
 ghost use Rattle.error_models.specs.ErrorLines.{text_at, KeepsTexts};
 ghost use Rattle.error_models.specs.HeldText.{EndsIn, most_named};
 ghost use Rattle.error_models.specs.ModelText.{line_text, targets_text};
+ghost use Rattle.error_models.specs.private.TargetNames.{reversed_where};
 
 use crate::held_text::HeldText;
 use crate::line_text::LineText;
@@ -94,22 +95,68 @@ impl<'a, A: Allocator + Copy> LinesText<'a, A> {
         ensures targets { self.new.targets ≡ self.old.targets }
         ensures texts { self.new.texts ≡ self.old.texts }
     {
+        self.put_either_line(number, targets, false)
+    }
+
+    /// Puts a line as `put_line` does, whose targets come from the last to the first.
+    pub fn put_line_reversed(&mut self, number: usize, targets: &[u32]) -> Result<(), AllocError>
+        requires number { number < length self.old.texts }
+        requires targets { All (λ target. target < self.old.targets) targets.now }
+        ensures ok { OnOk result
+            (self.new.text
+            ≡ line_text self.old.detectors
+            (record { text = text_at self.old.texts number; targets = reverse targets.now })
+            ++ self.old.text) }
+        ensures kept { EndsIn self.old.text self.new.text }
+        ensures detectors { self.new.detectors ≡ self.old.detectors }
+        ensures targets { self.new.targets ≡ self.old.targets }
+        ensures texts { self.new.texts ≡ self.old.texts }
+    {
+        self.put_either_line(number, targets, true)
+    }
+
+    // Puts a line, whose targets come from the last to the first where `reversed`.
+    #[inline(always)]
+    fn put_either_line(
+        &mut self,
+        number: usize,
+        targets: &[u32],
+        reversed: bool,
+    ) -> Result<(), AllocError>
+        requires number { number < length self.old.texts }
+        requires targets { All (λ target. target < self.old.targets) targets.now }
+        ensures ok { OnOk result
+            (self.new.text
+            ≡ line_text self.old.detectors
+            (record { text = text_at self.old.texts number; targets = reversed_where reversed targets.now })
+            ++ self.old.text) }
+        ensures kept { EndsIn self.old.text self.new.text }
+        ensures detectors { self.new.detectors ≡ self.old.detectors }
+        ensures targets { self.new.targets ≡ self.old.targets }
+        ensures texts { self.new.texts ≡ self.old.texts }
+    {
         let text = &self.texts[number];
         if text.text().len() > SHORT_TEXT || targets.len() > SHORT_TARGETS {
             let text = text.text();
-            return self.put_long_line(text, targets);
+            return self.put_long_line(text, targets, reversed);
         }
         self.blocks.make_room()?;
-        self.blocks.put_line(&self.names, text, targets);
+        self.blocks.put_line(&self.names, text, targets, reversed);
         Ok(())
     }
 
     #[inline(never)]
-    fn put_long_line(&mut self, text: &[u8], targets: &[u32]) -> Result<(), AllocError>
+    fn put_long_line(
+        &mut self,
+        text: &[u8],
+        targets: &[u32],
+        reversed: bool,
+    ) -> Result<(), AllocError>
         requires { All (λ target. target < self.old.targets) targets.now }
         ensures ok { OnOk result
             (self.new.text
-            ≡ line_text self.old.detectors (record { text = text.now; targets = targets.now })
+            ≡ line_text self.old.detectors
+            (record { text = text.now; targets = reversed_where reversed targets.now })
             ++ self.old.text) }
         ensures kept { EndsIn self.old.text self.new.text }
         ensures detectors { self.new.detectors ≡ self.old.detectors }
@@ -117,7 +164,7 @@ impl<'a, A: Allocator + Copy> LinesText<'a, A> {
         ensures texts { self.new.texts ≡ self.old.texts }
     {
         self.put(b"\n")?;
-        self.put_targets(targets)?;
+        self.put_either_targets(targets, reversed)?;
         self.put(b")")?;
         self.put(text)?;
         self.put(b"error(")
@@ -159,6 +206,42 @@ impl<'a, A: Allocator + Copy> LinesText<'a, A> {
             left = from;
         }
         Ok(())
+    }
+
+    // The same of targets that come from the last to the first, one after another: only long lines have them here.
+    fn put_reversed(&mut self, targets: &[u32]) -> Result<(), AllocError>
+        requires { All (λ target. target < self.old.targets) targets.now }
+        ensures ok { OnOk result
+            (self.new.text
+            ≡ targets_text self.old.detectors (reverse targets.now) ++ self.old.text) }
+        ensures kept { EndsIn self.old.text self.new.text }
+        ensures detectors { self.new.detectors ≡ self.old.detectors }
+        ensures targets { self.new.targets ≡ self.old.targets }
+        ensures texts { self.new.texts ≡ self.old.texts }
+    {
+        for target in targets {
+            self.put_targets(&[*target])?;
+        }
+        Ok(())
+    }
+
+    // The same of targets that come from the last to the first where `reversed`.
+    fn put_either_targets(&mut self, targets: &[u32], reversed: bool) -> Result<(), AllocError>
+        requires { All (λ target. target < self.old.targets) targets.now }
+        ensures ok { OnOk result
+            (self.new.text
+            ≡ targets_text self.old.detectors (reversed_where reversed targets.now)
+            ++ self.old.text) }
+        ensures kept { EndsIn self.old.text self.new.text }
+        ensures detectors { self.new.detectors ≡ self.old.detectors }
+        ensures targets { self.new.targets ≡ self.old.targets }
+        ensures texts { self.new.texts ≡ self.old.texts }
+    {
+        if reversed {
+            self.put_reversed(targets)
+        } else {
+            self.put_targets(targets)
+        }
     }
 
     /// How many bytes the text has, at most the greatest number.

@@ -1,7 +1,8 @@
 //! The texts of targets, made once for all lines.
-ghost use Rattle.std.specs.Prelude.{◌≡◌, ◌<◌, ◌≤◌, ◌+◌, ◌*◌, ◌++◌, All, IfOk, drop, length};
+ghost use Rattle.std.specs.Prelude.{◌≡◌, ◌<◌, ◌≤◌, ◌+◌, ◌*◌, ◌++◌, All, IfOk, drop, length, reverse};
 ghost use Rattle.error_models.specs.HeldText.{most_named};
 ghost use Rattle.error_models.specs.ModelText.{target_text, targets_text};
+ghost use Rattle.error_models.specs.private.TargetNames.{reversed_where};
 
 use crate::short_lines::{ANY_NAME, target_before};
 use std::alloc::{AllocError, Allocator};
@@ -104,12 +105,58 @@ impl<A: Allocator + Copy> Names<A> {
         ensures written { drop result buffer.new
             ≡ targets_text self.now.detectors targets.now ++ drop end buffer.old }
     {
+        // As a slice, so that nothing of the list is loaded again for each target.
+        let names = self.names.as_slice();
         let mut left = targets.len();
         let mut at = end;
         while left > 0 {
             left -= 1;
-            at = self.names[targets[left] as usize].before(buffer, at);
+            at = names[targets[left] as usize].before(buffer, at);
         }
         at
+    }
+
+    // The same, with the targets from the last to the first.
+    #[inline(always)]
+    fn reversed_before(&self, buffer: &mut [u8], end: usize, targets: &[u32]) -> usize
+        requires within { end ≤ length buffer.old }
+        requires room { length targets.now * NAME ≤ end }
+        requires targets { All (λ target. target < self.now.targets) targets.now }
+        ensures within { result ≤ end }
+        ensures least { end ≤ result + length targets.now * NAME }
+        ensures written { drop result buffer.new
+            ≡ targets_text self.now.detectors (reverse targets.now) ++ drop end buffer.old }
+    {
+        let names = self.names.as_slice();
+        let mut at = end;
+        for target in targets {
+            at = names[*target as usize].before(buffer, at);
+        }
+        at
+    }
+
+    /// The same, with the targets from the last to the first where `reversed`.
+    #[inline(always)]
+    pub(crate) fn either_before(
+        &self,
+        buffer: &mut [u8],
+        end: usize,
+        targets: &[u32],
+        reversed: bool,
+    ) -> usize
+        requires within { end ≤ length buffer.old }
+        requires room { length targets.now * NAME ≤ end }
+        requires targets { All (λ target. target < self.now.targets) targets.now }
+        ensures within { result ≤ end }
+        ensures least { end ≤ result + length targets.now * NAME }
+        ensures written { drop result buffer.new
+            ≡ targets_text self.now.detectors (reversed_where reversed targets.now)
+            ++ drop end buffer.old }
+    {
+        if reversed {
+            self.reversed_before(buffer, end, targets)
+        } else {
+            self.targets_before(buffer, end, targets)
+        }
     }
 }

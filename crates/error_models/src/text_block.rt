@@ -2,6 +2,7 @@
 ghost use Rattle.std.specs.Prelude.{◌≡◌, ◌<◌, ◌≤◌, ◌+◌, ◌*◌, ◌++◌, [], All, length, IfOk};
 ghost use Rattle.error_models.specs.HeldText.{no_text};
 ghost use Rattle.error_models.specs.ModelText.{line_text, targets_text};
+ghost use Rattle.error_models.specs.private.TargetNames.{reversed_where};
 
 use crate::line_text::LineText;
 use crate::names::{NAME, Names};
@@ -96,20 +97,27 @@ impl<A: Allocator + Copy> TextBlock<A> {
         self.start = names.targets_before(&mut self.bytes, self.start, targets);
     }
 
-    /// Puts a short line before the text.
+    /// Puts a short line before the text, with the targets from the last to the first where `reversed`.
     #[inline(always)]
-    pub(crate) fn put_line<'a>(&mut self, names: &Names<A>, text: &LineText<'a>, targets: &[u32])
+    pub(crate) fn put_line<'a>(
+        &mut self,
+        names: &Names<A>,
+        text: &LineText<'a>,
+        targets: &[u32],
+        reversed: bool,
+    )
         requires room { SHORT_LINE ≤ self.old.room }
         requires short { length text.now ≤ SHORT_TEXT }
         requires few { length targets.now ≤ SHORT_TARGETS }
         requires targets { All (λ target. target < names.now.targets) targets.now }
         ensures { self.new.text
-            ≡ line_text names.now.detectors (record { text = text.now; targets = targets.now })
+            ≡ line_text names.now.detectors
+            (record { text = text.now; targets = reversed_where reversed targets.now })
             ++ self.old.text }
     {
         let bytes = self.bytes.as_mut_slice();
         let at = text_before(bytes, self.start, b"\n");
-        let at = names.targets_before(bytes, at, targets);
+        let at = names.either_before(bytes, at, targets, reversed);
         self.start = text.head_before(bytes, at);
     }
 }

@@ -2,6 +2,7 @@
 ghost use Rattle.std.specs.Prelude.{◌≡◌, ◌<◌, ◌≤◌, ◌*◌, ◌++◌, [], All, length, min, IfOk, OnOk, vec_capacity, vec_len};
 ghost use Rattle.error_models.specs.HeldText.{no_text, texts_of};
 ghost use Rattle.error_models.specs.ModelText.{line_text, targets_text};
+ghost use Rattle.error_models.specs.private.TargetNames.{reversed_where};
 
 use crate::held_text::HeldText;
 use crate::line_text::LineText;
@@ -98,18 +99,25 @@ impl<A: Allocator + Copy> TextBlocks<A> {
         self.block.put_targets(names, targets);
     }
 
-    /// Puts a short line before the text.
+    /// Puts a short line before the text, with the targets from the last to the first where `reversed`.
     #[inline(always)]
-    pub(crate) fn put_line<'a>(&mut self, names: &Names<A>, text: &LineText<'a>, targets: &[u32])
+    pub(crate) fn put_line<'a>(
+        &mut self,
+        names: &Names<A>,
+        text: &LineText<'a>,
+        targets: &[u32],
+        reversed: bool,
+    )
         requires room { SHORT_LINE ≤ self.old.room }
         requires short { length text.now ≤ SHORT_TEXT }
         requires few { length targets.now ≤ SHORT_TARGETS }
         requires targets { All (λ target. target < names.now.targets) targets.now }
         ensures { self.new.text
-            ≡ line_text names.now.detectors (record { text = text.now; targets = targets.now })
+            ≡ line_text names.now.detectors
+            (record { text = text.now; targets = reversed_where reversed targets.now })
             ++ self.old.text }
     {
-        self.block.put_line(names, text, targets);
+        self.block.put_line(names, text, targets, reversed);
     }
 
     /// Takes the text out. Takes no memory.

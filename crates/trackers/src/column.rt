@@ -247,6 +247,7 @@ impl<S: TargetSet> Column<S> {
 
     /// The set of the targets whose letter here clashes with this one, where it is kept: an X clashes with a Z in a
     /// letter, and a Z with an X.
+    #[inline(always)]
     pub(crate) fn kept_clashing(&self, letter: Letter) -> Option<&S>
         ensures { IfSome result (λ set. S.bits set.now ≡ map (letters_clash letter) self.now) }
     {

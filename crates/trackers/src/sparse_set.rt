@@ -98,6 +98,11 @@ impl<'a, A: Allocator + Copy> TargetSet for SparseSet<'a, A> {
         list_ascending(self.items.as_slice(), into)
     }
 
+    #[inline(always)]
+    fn kept(&self) -> Option<&[u32]> {
+        Some(self.items.as_slice())
+    }
+
     fn list_sum<B: Allocator + Copy>(
         &self,
         other: &Self,

@@ -1,5 +1,5 @@
 //! Sets of targets, in which tracked words are kept.
-ghost use Rattle.std.specs.Prelude.{◌≡◌, ◌<◌, ◌≤◌, ◌^◌, false, true, not, length, filter, replicate, All, IfOk, OnOk, List, Bool, slice_index_or, slice_set};
+ghost use Rattle.std.specs.Prelude.{◌≡◌, ◌<◌, ◌≤◌, ◌^◌, false, true, not, length, filter, replicate, reverse, All, IfOk, IfSome, OnOk, List, Bool, slice_index_or, slice_set};
 ghost use Rattle.std.specs.List.{range_with_len};
 ghost use Rattle.bit_rows.specs.Rows.{xor_rows};
 ghost use Rattle.trackers.specs.TargetSets.{members, row_of_set};
@@ -48,6 +48,10 @@ pub trait TargetSet: Drop {
         requires { length (bits self.now) ≤ 2 ^ 32 }
         ensures { OnOk result (into.new.items ≡ members (bits self.now)) };
 
+    /// The targets in the set, the greatest first, where they are kept as such a list.
+    fn kept(&self) -> Option<&[u32]>
+        ensures { IfSome result (λ list. reverse list.now ≡ members (bits self.now)) };
+
     /// Puts the targets that are in just one of two sets into `into`, ascending, in place of what it held, and answers
     /// whether it did. A set need not do it; it is for sets of few targets.
     fn list_sum<B: Allocator + Copy>(
@@ -91,6 +95,10 @@ impl<A: Allocator + Copy> TargetSet for BitRow<A> {
     fn add(&mut self, other: &Self, _spare: &mut Self) -> Result<(), AllocError> {
         self.xor_from(other);
         Ok(())
+    }
+
+    fn kept(&self) -> Option<&[u32]> {
+        None
     }
 
     fn list_sum<B: Allocator + Copy>(

@@ -1,4 +1,4 @@
-ghost use Rattle.std.specs.Prelude.{◌≡◌, ◌≢◌, ◌<◌, [], length, All, IfOk, OnErr, OnOk};
+ghost use Rattle.std.specs.Prelude.{◌≡◌, ◌≢◌, ◌<◌, [], length, reverse, All, IfOk, IfSome, OnErr, OnOk};
 ghost use Rattle.std.specs.List.Sorted.{IsStrictlyIncreasing};
 ghost use Rattle.gate_table.specs.Images.{arity_of};
 ghost use Rattle.trackers.specs.Tracked.{Tracked, each_word, undone_one, undone_two, with_I_at, added, anticommuting, Fit, restored};
@@ -10,7 +10,7 @@ use std::alloc::{AllocError, Allocator};
 use step_model::Term;
 
 /// An unsigned Pauli word for each target, taken back over the steps of a program: the words of the detectors, then
-/// those of the observables. Lists of targets ascend.
+/// those of the observables. Lists of targets ascend, where nothing else is said.
 ///
 /// After an error in `undo1`, `undo2`, `add` or `restore` nothing is promised about the words, and the tracker is not
 /// used again. After one in `hit` it is as it was.
@@ -67,4 +67,10 @@ pub trait Tracker: Sized {
         ensures hit { OnOk result (hit.new.items ≡ anticommuting terms.now (tracked self.old)) }
         ensures empty { OnErr result (hit.new.items ≡ []) }
         ensures same { tracked self.new ≡ tracked self.old };
+
+    /// The targets whose words anticommute with the product of these letters at qubits, the greatest first, where they
+    /// are kept as such a list. A tracker need not keep them so.
+    fn kept_hit(&self, terms: &[Term]) -> Option<&[u32]>
+        requires { All (λ term. term.qubit < (tracked self.now).qubits) terms.now }
+        ensures { IfSome result (λ hit. reverse hit.now ≡ anticommuting terms.now (tracked self.now)) };
 }

@@ -262,4 +262,14 @@ impl<S: TargetSet, A: Allocator + Copy> Tracker for Words<S, A> {
         }
         listed
     }
+
+    #[inline(always)]
+    fn kept_hit(&self, terms: &[Term]) -> Option<&[u32]> {
+        if let [term] = terms {
+            if let Some(set) = self.columns[term.qubit as usize].kept_clashing(term.letter) {
+                return set.kept();
+            }
+        }
+        None
+    }
 }

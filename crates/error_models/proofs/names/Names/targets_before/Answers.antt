@@ -1,7 +1,6 @@
-use Rattle.std.proofs.Common.{◌≡◌, ◌<◌, ◌+◌, ◌-◌, ◌++◌, length, get_or, drop, ap, sym, ◌∙◌, arith}
+use Rattle.std.proofs.Common.{◌≡◌, ◌<◌, ◌+◌, ◌-◌, ◌++◌, length, get_or, drop, ap, ◌∙◌, arith}
 use Rattle.error_models.specs.ModelText.{target_text}
-use Rattle.error_models.proofs.ErrorLineLemmas.{text_at-get_or}
-use Rattle.error_models.proofs.NameLemmas.{one_target_more}
+use Rattle.error_models.proofs.NameLemmas.{name_read, one_target_more}
 use Rattle.error_models.proofs.names.Names.targets_before.Goals as goal
 
 pub loop-left-preserved : goal.loop-left-preserved
@@ -14,8 +13,7 @@ loop-left-preserved g c =
     let target = get_or targets (left - 1) 0 in
     let within : target < length names = omega (arith, c.requires.targets (left - 1) 0 here, ap (λ n. n.targets) c.self.view_is) in
     let named =
-    c.index.ensures
-    ∙ sym (text_at-get_or names target c.index.result.now within)
+    name_read names _ c.index-names-targets.result _ target c.index-names-targets.is c.as_slice-names.ensures.value within
     ∙ c.self.invariant target within
     ∙ ap (λ n. target_text n.detectors target) c.self.view_is in
     record {
@@ -24,6 +22,6 @@ loop-left-preserved g c =
       least = omega (arith, c.before-at.ensures.least, c.loop-left.invariant.least, next);
       written =
           c.before-at.ensures.written
-          ∙ (ap (λ l. c.index.result.now ++ l) c.loop-left.invariant.written
-          ∙ one_target_more c.args.self.now.detectors targets c.index.result.now (drop c.args.end c.args.buffer.now) (left - 1) left 0 next here named);
+          ∙ (ap (λ l. c.index-names-targets.result ++ l) c.loop-left.invariant.written
+          ∙ one_target_more c.args.self.now.detectors targets c.index-names-targets.result (drop c.args.end c.args.buffer.now) (left - 1) left 0 next here named);
     }
