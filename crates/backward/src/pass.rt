@@ -5,9 +5,8 @@ ghost use Rattle.step_model.specs.Targets.{targets_of};
 ghost use Rattle.programs.specs.Kept.{kept_at};
 ghost use Rattle.programs.specs.Listed.{listed};
 ghost use Rattle.programs.specs.Named.{IsNamed, IsNamedFlip, IsStepOf};
-ghost use Rattle.backward.specs.private.Collapses.{members_at, undone_collapse};
 ghost use Rattle.backward.specs.private.Passes.{FitsCollapse, IsCollapseAt, IsFeedbackAt, IsPassed, IsStepAt, Stays};
-ghost use Rattle.backward.specs.private.Steps.{AreGoneOver, IsGoneOver, IsUndone};
+ghost use Rattle.backward.specs.private.Steps.{AreGoneOver, IsGoneOver, IsTakenBack, IsUndone};
 ghost use Rattle.backward.specs.private.Stretches.{Gives, flip_line, line_for, lines_at, lines_between};
 
 use crate::collapse::undo_collapse;
@@ -160,20 +159,9 @@ fn undo_lent<'s, 'a, A: Allocator + Copy, T: Tracker, L: LineStore>(
     requires fits { FitsCollapse program.now (T.tracked tracker.old) found.old.lists terms.now reset
         rec flip }
     requires store { L.program lines.old ≡ program.now }
-    ensures words { OnOk result
-        (T.tracked tracker.new
-        ≡ undone_collapse (members_at found.old.lists rec) terms.now reset
-        (T.tracked tracker.old)) }
-    ensures lines { OnOk result
-        (Gives (L.holds lines.old) (L.holds lines.new)
-        (flip_line program.now flip (members_at found.old.lists rec))) }
-    ensures store { L.program lines.new ≡ L.program lines.old }
-    ensures lists { OnOk result (found.new.lists ≡ found.old.lists) }
-    ensures settled { found.new.settled ≡ found.old.settled }
-    ensures keeps { found.new.keeps ≡ found.old.keeps }
-    ensures known { found.new.known ≡ found.old.known }
-    ensures latest { found.new.latest ≡ found.old.latest }
-    ensures left { found.new.left ≡ found.old.left }
+    ensures { IsTakenBack L.program L.holds program.now terms.now reset rec flip
+        (T.tracked tracker.old) (T.tracked tracker.new) found.old found.new lines.old lines.new
+        result }
 {
     match found.lent_record(rec) {
         Some(listed) => {
@@ -199,20 +187,9 @@ fn undo_changed<'s, 'a, A: Allocator + Copy, T: Tracker, L: LineStore>(
     requires fits { FitsCollapse program.now (T.tracked tracker.old) found.old.lists terms.now reset
         rec flip }
     requires store { L.program lines.old ≡ program.now }
-    ensures words { OnOk result
-        (T.tracked tracker.new
-        ≡ undone_collapse (members_at found.old.lists rec) terms.now reset
-        (T.tracked tracker.old)) }
-    ensures lines { OnOk result
-        (Gives (L.holds lines.old) (L.holds lines.new)
-        (flip_line program.now flip (members_at found.old.lists rec))) }
-    ensures store { L.program lines.new ≡ L.program lines.old }
-    ensures lists { OnOk result (found.new.lists ≡ found.old.lists) }
-    ensures settled { found.new.settled ≡ found.old.settled }
-    ensures keeps { found.new.keeps ≡ found.old.keeps }
-    ensures known { found.new.known ≡ found.old.known }
-    ensures latest { found.new.latest ≡ found.old.latest }
-    ensures left { found.new.left ≡ found.old.left }
+    ensures { IsTakenBack L.program L.holds program.now terms.now reset rec flip
+        (T.tracked tracker.old) (T.tracked tracker.new) found.old found.new lines.old lines.new
+        result }
 {
     found.list_record(rec)?;
     note_flip(program, flip, found.hit.as_slice(), lines)?;

@@ -1,13 +1,16 @@
 -- What going back over one step leaves. (This project's own.)
-use Rattle.std.specs.Prelude.{◌≡◌, ◌≤◌, ◌+◌, ℕ, List, Result, OnOk, reverse}
+use Rattle.std.specs.Prelude.{◌≡◌, ◌≤◌, ◌+◌, ℕ, List, Option, Result, OnOk, reverse}
+use Rattle.step_model.specs.declared.step.Term.{Term}
 use Rattle.step_model.specs.ErrorModels.{ErrorLine}
 use Rattle.step_model.specs.Listing.{Listing}
 use Rattle.programs.specs.Kept.{KeptProgram}
+use Rattle.programs.specs.declared.step.FaultName.{FaultName}
 use Rattle.backward.specs.declared.found.Found.{Found}
 use Rattle.backward.specs.declared.point.Point.{Point}
 use Rattle.trackers.specs.Tracked.{Tracked}
+use Rattle.backward.specs.private.Collapses.{members_at, undone_collapse}
 use Rattle.backward.specs.private.Passes.{IsPassed, Stays}
-use Rattle.backward.specs.private.Stretches.{Gives, lines_at, lines_between}
+use Rattle.backward.specs.private.Stretches.{Gives, flip_line, lines_at, lines_between}
 
 -- the step right after the place of a walk was gone back over: the words are those before it, and so is what is kept
 pub record IsUndone {A T U E : Type 0} (tracked : T → Tracked) (program : Listing) (from to : Point A T) (old new : Found A) (result : Result U E) : Type 0 where
@@ -30,3 +33,15 @@ pub record AreGoneOver {A T L U E : Type 0} (tracked : T → Tracked) (kept : L 
   pub stays : Stays old new
   pub lines : OnOk result (Gives (holds before) (holds after) (reverse (lines_between program to.walk.place (from.walk.place + 1))))
   pub store : kept after ≡ kept before
+
+-- the words were taken back over a collapse with a record, where it has one, and the line of the fault that flips it was given
+pub record IsTakenBack {A L U E : Type 0} (kept : L → KeptProgram) (holds : L → List ErrorLine → Type 0) (program : KeptProgram) (terms : List Term) (reset rec : Option ℕ) (flip : Option FaultName) (from to : Tracked) (old new : Found A) (before after : L) (result : Result U E) : Type 0 where
+  pub words : OnOk result (to ≡ undone_collapse (members_at old.lists rec) terms reset from)
+  pub lines : OnOk result (Gives (holds before) (holds after) (flip_line program flip (members_at old.lists rec)))
+  pub store : kept after ≡ kept before
+  pub lists : OnOk result (new.lists ≡ old.lists)
+  pub settled : new.settled ≡ old.settled
+  pub keeps : new.keeps ≡ old.keeps
+  pub known : new.known ≡ old.known
+  pub latest : new.latest ≡ old.latest
+  pub left : new.left ≡ old.left

@@ -29,14 +29,20 @@ undo_collapse-requires-clause-named g c =
     subst (λ m. All (λ t. t < m) c.as_slice-2.result.now) (sym fits.words)
     (subst (All (λ t. t < n)) (sym (c.as_slice-2.ensures.value ∙ c.in_ok-list_record.ensures.hit)) (members_at-within c.args.found.now.lists c.args.rec n fits.is_record fits.long))
 
-pub returns-clause-words : goal.returns-clause-words
-returns-clause-words g c =
-    on_ok_weaker c.undo_collapse.result (λ h. h ∙ ap (λ l. undone_collapse l c.args.terms.now c.args.reset (g.T.Tracker.tracked c.args.tracker.now)) (c.as_slice-2.ensures.value ∙ c.in_ok-list_record.ensures.hit)) c.undo_collapse.ensures
-
-pub returns-clause-lines : goal.returns-clause-lines
-returns-clause-lines g c =
-    on_ok_any c.undo_collapse.result
-    (subst (λ l. Gives (g.L.LineStore.holds c.args.lines.now) (g.L.LineStore.holds c.note_flip.new.lines) (flip_line c.args.program.now c.args.flip l)) (c.as_slice.ensures.value ∙ c.in_ok-list_record.ensures.hit) c.in_ok-note_flip.ensures.lines)
-
-pub returns-clause-lists : goal.returns-clause-lists
-returns-clause-lists g c = on_ok_any c.undo_collapse.result c.in_ok-list_record.ensures.lists
+pub returns : goal.returns
+returns g c =
+    let r = c.undo_collapse.result in
+    let e = c.list_record.ensures in
+    record {
+      words = on_ok_weaker r (λ h. h ∙ ap (λ l. undone_collapse l c.args.terms.now c.args.reset (g.T.Tracker.tracked c.args.tracker.now)) (c.as_slice-2.ensures.value ∙ c.in_ok-list_record.ensures.hit)) c.undo_collapse.ensures;
+      lines =
+          on_ok_any r
+          (subst (λ l. Gives (g.L.LineStore.holds c.args.lines.now) (g.L.LineStore.holds c.note_flip.new.lines) (flip_line c.args.program.now c.args.flip l)) (c.as_slice.ensures.value ∙ c.in_ok-list_record.ensures.hit) c.in_ok-note_flip.ensures.lines);
+      store = c.note_flip.ensures.store;
+      lists = on_ok_any r c.in_ok-list_record.ensures.lists;
+      settled = e.settled;
+      keeps = e.keeps;
+      known = e.known;
+      latest = e.latest;
+      left = e.left;
+    }

@@ -1,4 +1,4 @@
-use Rattle.std.proofs.Common.{◌<◌, length, ap, subst, sym, ◌∙◌}
+use Rattle.std.proofs.Common.{◌<◌, length, ap, refl, subst, sym, ◌∙◌}
 use Rattle.std.specs.Prelude.{All}
 use Rattle.std.specs.List.Sorted.{IsStrictlyIncreasing}
 use Rattle.std.proofs.lemmas.Result.{on_ok_weaker}
@@ -26,11 +26,19 @@ undo_collapse-requires-clause-named g c =
     subst (λ m. All (λ t. t < m) c.in-Some.listed.now) (sym fits.words)
     (subst (All (λ t. t < n)) (sym c.in-Some.ensures) (members_at-within c.args.found.now.lists c.args.rec n fits.is_record fits.long))
 
-pub returns-in_ok-note_flip-in-Some-clause-words : goal.returns-in_ok-note_flip-in-Some-clause-words
-returns-in_ok-note_flip-in-Some-clause-words g c =
-    on_ok_weaker c.undo_collapse.result (λ h. h ∙ ap (λ l. undone_collapse l c.args.terms.now c.args.reset (g.T.Tracker.tracked c.args.tracker.now)) c.in-Some.ensures) c.undo_collapse.ensures
-
-pub returns-in_ok-note_flip-in-Some-clause-lines : goal.returns-in_ok-note_flip-in-Some-clause-lines
-returns-in_ok-note_flip-in-Some-clause-lines g c =
-    on_ok_any c.undo_collapse.result
-    (subst (λ l. Gives (g.L.LineStore.holds c.args.lines.now) (g.L.LineStore.holds c.note_flip.new.lines) (flip_line c.args.program.now c.args.flip l)) c.in-Some.ensures c.in_ok-note_flip-in-Some.ensures.lines)
+pub returns-in_ok-note_flip-in-Some : goal.returns-in_ok-note_flip-in-Some
+returns-in_ok-note_flip-in-Some g c =
+    let r = c.undo_collapse.result in
+    record {
+      words = on_ok_weaker r (λ h. h ∙ ap (λ l. undone_collapse l c.args.terms.now c.args.reset (g.T.Tracker.tracked c.args.tracker.now)) c.in-Some.ensures) c.undo_collapse.ensures;
+      lines =
+          on_ok_any r
+          (subst (λ l. Gives (g.L.LineStore.holds c.args.lines.now) (g.L.LineStore.holds c.note_flip.new.lines) (flip_line c.args.program.now c.args.flip l)) c.in-Some.ensures c.in_ok-note_flip-in-Some.ensures.lines);
+      store = c.note_flip.ensures.store;
+      lists = on_ok_any r refl;
+      settled = refl;
+      keeps = refl;
+      known = refl;
+      latest = refl;
+      left = refl;
+    }
