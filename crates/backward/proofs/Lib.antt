@@ -3,6 +3,7 @@ mod ApartLemmas
 mod ChangeLemmas
 pub mod Judging
 mod HeldLines
+mod LentHits
 mod LinkLemmas
 mod ListedLemmas
 mod NumberedLemmas

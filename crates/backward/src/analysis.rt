@@ -62,6 +62,7 @@ fn find_from_end<'s, 'p, 'a, A: Allocator + Copy, T: Tracker>(
     ensures { IfOk result (IsAnalysed program.now.listing) }
 {
     let mut lines = ModelStore {
+        alloc,
         program,
         model: Model::new(alloc, FlatLists::new(alloc), 0),
     };

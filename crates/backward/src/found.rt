@@ -111,8 +111,40 @@ impl<'s, A: Allocator + Copy> Found<'s, A> {
         if self.settled {
             return Ok(());
         }
-        tracker.hit(terms, &mut self.hit)?;
         self.left -= 1;
+        // Most collapses hit no target.
+        if let Some(hit) = tracker.kept_hit(terms)
+            && hit.is_empty()
+        {
+            return Ok(());
+        }
+        self.note_hit(targets, terms, tracker)
+    }
+
+    // Notes the targets whose words anticommute with a product of letters, for which a collapse with so many before it is
+    // the latest place.
+    #[inline(never)]
+    fn note_hit<T: Tracker>(
+        &mut self,
+        targets: usize,
+        terms: &[Term],
+        tracker: &mut T,
+    ) -> Result<(), AllocError>
+        requires terms { All (λ term. term.qubit < (T.tracked tracker.old).qubits) terms.now }
+        requires words { length (T.tracked tracker.old).words ≡ targets }
+        requires long { length (opened targets self.old.latest.items) ≡ targets }
+        ensures words { T.tracked tracker.new ≡ T.tracked tracker.old }
+        ensures latest { OnOk result
+            (opened targets self.new.latest.items
+            ≡ noted self.old.left (anticommuting terms.now (T.tracked tracker.old))
+            (opened targets self.old.latest.items)) }
+        ensures left { self.new.left ≡ self.old.left }
+        ensures lists { self.new.lists ≡ self.old.lists }
+        ensures settled { self.new.settled ≡ self.old.settled }
+        ensures keeps { self.new.keeps ≡ self.old.keeps }
+        ensures known { self.new.known ≡ self.old.known }
+    {
+        tracker.hit(terms, &mut self.hit)?;
         note(
             *self.alloc,
             &mut self.latest,

@@ -1,5 +1,5 @@
 //! Where a pass puts the error lines that it finds, the last fault's first.
-ghost use Rattle.std.specs.Prelude.{◌≡◌, ◌<◌, ◌∷◌, [], List, length, All, OnOk};
+ghost use Rattle.std.specs.Prelude.{◌≡◌, ◌<◌, ◌∷◌, [], List, length, reverse, All, OnOk};
 ghost use Rattle.step_model.specs.ErrorModels.{ErrorLine};
 ghost use Rattle.programs.specs.Kept.{KeptProgram, kept_at};
 ghost use Rattle.step_model.specs.Targets.{targets_of};
@@ -23,11 +23,19 @@ pub(crate) trait LineStore {
         requires named { All (λ t. t < length (targets_of (program self.old).listing)) targets.now }
         ensures program { program self.new ≡ program self.old }
         ensures holds { OnOk result (Gives (holds self.old) (holds self.new) (record { text = (kept_at (program self.old) entry).text; targets = targets.now } ∷ [])) };
+
+    /// The same with targets that come from the last to the first.
+    fn give_reversed(&mut self, entry: u32, targets: &[u32]) -> Result<(), AllocError>
+        requires entry { entry < length (program self.old).kept }
+        requires named { All (λ t. t < length (targets_of (program self.old).listing)) targets.now }
+        ensures program { program self.new ≡ program self.old }
+        ensures holds { OnOk result (Gives (holds self.old) (holds self.new) (record { text = (kept_at (program self.old) entry).text; targets = reverse targets.now } ∷ [])) };
 }
 
 /// A model of a program's lines.
 #[derive(Drop)]
 pub(crate) struct ModelStore<'p, 'a, A: Allocator + Copy> {
+    pub(crate) alloc: A,
     pub(crate) program: &'p Program<'a, A>,
     pub(crate) model: Model<'a, A>,
 }
@@ -40,6 +48,13 @@ impl<'p, 'a, A: Allocator + Copy> LineStore for ModelStore<'p, 'a, A> {
     fn give(&mut self, entry: u32, targets: &[u32]) -> Result<(), AllocError> {
         self.model
             .push_line(self.program.entry_text(entry), targets)
+    }
+
+    fn give_reversed(&mut self, entry: u32, targets: &[u32]) -> Result<(), AllocError> {
+        let mut ordered = Vec::new(self.alloc);
+        ordered.extend_from_slice(targets)?;
+        ordered.reverse();
+        self.give(entry, ordered.as_slice())
     }
 }
 
@@ -57,6 +72,10 @@ impl<'p, 'a, A: Allocator + Copy> LineStore for NoLines<'p, 'a, A> {
     ghost holds = { λ store lines. ⊤ };
 
     fn give(&mut self, _entry: u32, _targets: &[u32]) -> Result<(), AllocError> {
+        Ok(())
+    }
+
+    fn give_reversed(&mut self, _entry: u32, _targets: &[u32]) -> Result<(), AllocError> {
         Ok(())
     }
 }

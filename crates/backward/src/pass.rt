@@ -8,6 +8,7 @@ ghost use Rattle.programs.specs.Named.{IsNamed, IsNamedFlip, IsStepOf};
 ghost use Rattle.backward.specs.private.Passes.{FitsCollapse, IsCollapseAt, IsFeedbackAt, IsPassed, IsStepAt, Stays};
 ghost use Rattle.backward.specs.private.Steps.{AreGoneOver, IsGoneOver, IsTakenBack, IsUndone};
 ghost use Rattle.backward.specs.private.Stretches.{Gives, flip_line, line_for, lines_at, lines_between};
+ghost use Rattle.trackers.specs.Tracked.{anticommuting};
 
 use crate::collapse::undo_collapse;
 use crate::found::Found;
@@ -238,6 +239,79 @@ fn note_line<'a, A: Allocator + Copy, L: LineStore>(
     }
 }
 
+// The same with targets that come from the last to the first.
+#[inline(always)]
+fn note_reversed<L: LineStore>(entry: u32, targets: &[u32], lines: &mut L) -> Result<(), AllocError>
+    requires entry { entry < length (L.program lines.old).kept }
+    requires named { All (λ t. t < length (targets_of (L.program lines.old).listing)) targets.now }
+    ensures lines { OnOk result
+        (Gives (L.holds lines.old) (L.holds lines.new)
+        (line_for (kept_at (L.program lines.old) entry).text (reverse targets.now))) }
+    ensures store { L.program lines.new ≡ L.program lines.old }
+{
+    if targets.is_empty() {
+        Ok(())
+    } else {
+        lines.give_reversed(entry, targets)
+    }
+}
+
+// Gives the line of a fault of these letters: of the targets whose words anticommute with their product. Where the tracker
+// keeps these targets in a list, none is copied.
+#[inline(always)]
+fn note_hit<'a, A: Allocator + Copy, T: Tracker, L: LineStore>(
+    program: &Program<'a, A>,
+    entry: u32,
+    terms: &[Term],
+    tracker: &mut T,
+    hit: &mut Vec<u32, A>,
+    lines: &mut L,
+) -> Result<(), AllocError>
+    requires entry { entry < length program.now.kept }
+    requires terms { All (λ term. term.qubit < (T.tracked tracker.old).qubits) terms.now }
+    requires words { length (T.tracked tracker.old).words
+        ≡ length (targets_of program.now.listing) }
+    requires store { L.program lines.old ≡ program.now }
+    ensures words { T.tracked tracker.new ≡ T.tracked tracker.old }
+    ensures lines { OnOk result
+        (Gives (L.holds lines.old) (L.holds lines.new)
+        (line_for (kept_at program.now entry).text
+        (anticommuting terms.now (T.tracked tracker.old)))) }
+    ensures store { L.program lines.new ≡ L.program lines.old }
+{
+    if let Some(kept) = tracker.kept_hit(terms) {
+        return note_reversed(entry, kept, lines);
+    }
+    note_listed(program, entry, terms, tracker, hit, lines)
+}
+
+// The same by a list of these targets, which is put into a buffer. By a call, so that the loop over a run of faults is
+// short.
+#[inline(never)]
+fn note_listed<'a, A: Allocator + Copy, T: Tracker, L: LineStore>(
+    program: &Program<'a, A>,
+    entry: u32,
+    terms: &[Term],
+    tracker: &mut T,
+    hit: &mut Vec<u32, A>,
+    lines: &mut L,
+) -> Result<(), AllocError>
+    requires entry { entry < length program.now.kept }
+    requires terms { All (λ term. term.qubit < (T.tracked tracker.old).qubits) terms.now }
+    requires words { length (T.tracked tracker.old).words
+        ≡ length (targets_of program.now.listing) }
+    requires store { L.program lines.old ≡ program.now }
+    ensures words { T.tracked tracker.new ≡ T.tracked tracker.old }
+    ensures lines { OnOk result
+        (Gives (L.holds lines.old) (L.holds lines.new)
+        (line_for (kept_at program.now entry).text
+        (anticommuting terms.now (T.tracked tracker.old)))) }
+    ensures store { L.program lines.new ≡ L.program lines.old }
+{
+    tracker.hit(terms, hit)?;
+    note_line(program, entry, hit.as_slice(), lines)
+}
+
 // Goes back over a fault: gives the line of the targets whose words it anticommutes with.
 #[inline(always)]
 fn fault<'s, 'p, 'a, A: Allocator + Copy, T: Tracker, L: LineStore>(
@@ -257,8 +331,14 @@ fn fault<'s, 'p, 'a, A: Allocator + Copy, T: Tracker, L: LineStore>(
 {
     program.well_formed();
     let terms = program.entry_terms(name.entry);
-    at.tracker.hit(terms, &mut found.hit)?;
-    note_line(program, name.entry, found.hit.as_slice(), lines)
+    note_hit(
+        program,
+        name.entry,
+        terms,
+        &mut at.tracker,
+        &mut found.hit,
+        lines,
+    )
 }
 
 // Goes back over a fault, which the walk has gone back over already, and over the faults right before it, to a place at

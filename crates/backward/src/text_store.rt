@@ -1,7 +1,9 @@
 //! The text of error lines that a pass finds, up to a limit.
 ghost use Rattle.std.specs.Prelude.{◌≡◌, ◌<◌, [], length, IfOk};
 ghost use Rattle.backward.specs.private.Numbered.{AreNumbers, IsTextFor};
+ghost use Rattle.error_models.specs.ErrorLines.{text_at};
 ghost use Rattle.error_models.specs.HeldText.{HoldsLines};
+ghost use Rattle.programs.specs.Kept.{kept_at};
 
 use crate::line_store::LineStore;
 use crate::targets::target_count;
@@ -116,6 +118,18 @@ impl<'p, 'a, A: Allocator + Copy> TextStore<'p, 'a, A> {
         self.whole = self.room.saturating_mul(WHOLE_PART);
     }
 
+    // The number of the text of an entry's probability.
+    #[inline(always)]
+    fn text_number(&self, entry: u32) -> usize
+        requires { entry < length self.now.program.now.kept }
+        ensures within { result < length self.now.text.texts }
+        ensures named { text_at self.now.text.texts result
+            ≡ (kept_at self.now.program.now entry).text }
+    {
+        let chance = self.chances.numbers[entry as usize];
+        self.numbers[chance]
+    }
+
     /// Takes the text out.
     pub(crate) fn take_text(&mut self) -> HeldText<A>
         ensures text { result ≡ self.old.text.text }
@@ -167,7 +181,12 @@ impl<'p, 'a, A: Allocator + Copy> LineStore for TextStore<'p, 'a, A> {
     ghost holds = { λ store lines. HoldsLines store.text lines };
 
     fn give(&mut self, entry: u32, targets: &[u32]) -> Result<(), AllocError> {
-        let chance = self.chances.numbers[entry as usize];
-        self.text.put_line(self.numbers[chance], targets)
+        let number = self.text_number(entry);
+        self.text.put_line(number, targets)
+    }
+
+    fn give_reversed(&mut self, entry: u32, targets: &[u32]) -> Result<(), AllocError> {
+        let number = self.text_number(entry);
+        self.text.put_line_reversed(number, targets)
     }
 }
