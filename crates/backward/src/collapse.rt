@@ -1,16 +1,114 @@
-//! Taking the words back over a collapse, which is the projective measurement inside a measurement or a reset.
-ghost use Rattle.std.specs.Prelude.{◌≡◌, ◌<◌, length, All, OnOk, IfSome};
+//! Going back over a collapse, which is the projective measurement inside a measurement or a reset.
+ghost use Rattle.std.specs.Prelude.{◌≡◌, ◌<◌, ◌+◌, length, All, OnOk, IfSome};
 ghost use Rattle.std.specs.List.Sorted.{IsStrictlyIncreasing};
 ghost use Rattle.backward.specs.private.Collapses.{times_terms, reset_at, undone_collapse};
+ghost use Rattle.backward.specs.private.Passes.{FitsCollapse, IsCollapseAt, IsPassed};
+ghost use Rattle.backward.specs.private.Steps.{IsGoneOver, IsTakenBack};
 
-use std::alloc::AllocError;
+use crate::faults::note_flip;
+use crate::found::Found;
+use crate::line_store::LineStore;
+use crate::point::Point;
+use crate::targets::target_count;
+use programs::{FaultName, Program};
+use std::alloc::{AllocError, Allocator};
 use step_model::Term;
 use trackers::Tracker;
 
-/// Puts I at the qubit that is reset, where one is, and then multiplies the words of the targets that list the record
-/// by the product that is measured.
+/// Goes back over a collapse of a product of letters: judges it, puts the line of the fault that flips its record, and
+/// takes the words back.
 #[inline(always)]
-pub(crate) fn undo_collapse<T: Tracker>(
+pub(crate) fn collapse<'s, 'p, 'a, A: Allocator + Copy, T: Tracker, L: LineStore>(
+    program: &Program<'a, A>,
+    terms: &[Term],
+    reset: Option<u32>,
+    rec: Option<u32>,
+    flip: Option<FaultName>,
+    at: &mut Point<'p, 'a, A, T>,
+    found: &mut Found<'s, A>,
+    lines: &mut L,
+) -> Result<(), AllocError>
+    requires step { IsCollapseAt program.now at.old.walk.place terms.now reset rec flip }
+    requires store { L.program lines.old ≡ program.now }
+    requires passed { IsPassed program.now.listing (at.old.walk.place + 1)
+        (T.tracked at.old.tracker) found.old }
+    ensures { IsGoneOver T.tracked L.program L.holds program.now.listing at.old at.new found.old
+        found.new lines.old lines.new result }
+{
+    program.well_formed();
+    let targets = target_count(program);
+    found.judge(targets, terms, &mut at.tracker)?;
+    undo_lent(
+        program,
+        terms,
+        reset,
+        rec,
+        flip,
+        &mut at.tracker,
+        found,
+        lines,
+    )?;
+    found.let_go(rec);
+    Ok(())
+}
+
+// Gives the line of the fault that flips the record of a collapse, and takes the words back. Mostly the targets that list
+// the record are lent.
+#[inline(always)]
+fn undo_lent<'s, 'a, A: Allocator + Copy, T: Tracker, L: LineStore>(
+    program: &Program<'a, A>,
+    terms: &[Term],
+    reset: Option<u32>,
+    rec: Option<u32>,
+    flip: Option<FaultName>,
+    tracker: &mut T,
+    found: &mut Found<'s, A>,
+    lines: &mut L,
+) -> Result<(), AllocError>
+    requires fits { FitsCollapse program.now (T.tracked tracker.old) found.old.lists terms.now reset
+        rec flip }
+    requires store { L.program lines.old ≡ program.now }
+    ensures { IsTakenBack L.program L.holds program.now terms.now reset rec flip
+        (T.tracked tracker.old) (T.tracked tracker.new) found.old found.new lines.old lines.new
+        result }
+{
+    match found.lent_record(rec) {
+        Some(listed) => {
+            note_flip(program, flip, listed, lines)?;
+            undo_collapse(tracker, listed, terms, reset)
+        }
+        None => undo_changed(program, terms, reset, rec, flip, tracker, found, lines),
+    }
+}
+
+// The same where the targets have to be put into a buffer first, as after feedback.
+#[inline(never)]
+fn undo_changed<'s, 'a, A: Allocator + Copy, T: Tracker, L: LineStore>(
+    program: &Program<'a, A>,
+    terms: &[Term],
+    reset: Option<u32>,
+    rec: Option<u32>,
+    flip: Option<FaultName>,
+    tracker: &mut T,
+    found: &mut Found<'s, A>,
+    lines: &mut L,
+) -> Result<(), AllocError>
+    requires fits { FitsCollapse program.now (T.tracked tracker.old) found.old.lists terms.now reset
+        rec flip }
+    requires store { L.program lines.old ≡ program.now }
+    ensures { IsTakenBack L.program L.holds program.now terms.now reset rec flip
+        (T.tracked tracker.old) (T.tracked tracker.new) found.old found.new lines.old lines.new
+        result }
+{
+    found.list_record(rec)?;
+    note_flip(program, flip, found.hit.as_slice(), lines)?;
+    undo_collapse(tracker, found.hit.as_slice(), terms, reset)
+}
+
+// Puts I at the qubit that is reset, where one is, and then multiplies the words of the targets that list the record
+// by the product that is measured.
+#[inline(always)]
+fn undo_collapse<T: Tracker>(
     tracker: &mut T,
     targets: &[u32],
     terms: &[Term],

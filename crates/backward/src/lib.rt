@@ -6,6 +6,7 @@ mod analysis;
 mod ascending;
 mod changing_lists;
 mod collapse;
+mod faults;
 mod found;
 mod line_store;
 mod listed_targets;

@@ -7,7 +7,7 @@ use Rattle.backward.specs.private.Collapses.{undone_collapse}
 use Rattle.backward.specs.private.Stretches.{Gives, flip_line}
 use Rattle.backward.proofs.RecordMembers.{members_at-ascend, members_at-within}
 use Rattle.backward.proofs.StepLemmas.{on_ok_any}
-use Rattle.backward.proofs.pass.undo_changed.Goals as goal
+use Rattle.backward.proofs.collapse.undo_changed.Goals as goal
 
 pub list_record-requires-clause-long : goal.list_record-requires-clause-long
 list_record-requires-clause-long g c k d lt = omega (arith, c.requires.fits.long k d lt, c.requires.fits.few)

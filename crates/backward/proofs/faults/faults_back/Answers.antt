@@ -1,13 +1,13 @@
-use Rattle.std.proofs.Common.{◌≡◌, ◌≤◌, ◌+◌, ◌-◌, ap, refl, subst, sym, ◌∙◌, arith}
+use Rattle.std.proofs.Common.{◌≡◌, ◌+◌, ap, refl, subst, sym, ◌∙◌, arith}
 use Rattle.std.specs.Prelude.{reverse}
 use Rattle.backward.specs.private.Passes.{IsPassed}
 use Rattle.backward.specs.private.Stretches.{Gives, lines_between}
 use Rattle.backward.proofs.HeldLines.{gives_on, gives_same, gives_step}
 use Rattle.backward.proofs.PassFaults.{is_pending, one_at_most, pending, went_back}
 use Rattle.backward.proofs.StepLemmas.{stays_as, stays_on}
-use Rattle.backward.proofs.pass.faults_back.Given.{Over}
-use Rattle.backward.proofs.pass.faults_back.Goals as goal
-use Rattle.backward.proofs.pass.faults_back.Goals.{In_ok-fault}
+use Rattle.backward.proofs.faults.faults_back.Given.{Over}
+use Rattle.backward.proofs.faults.faults_back.Goals as goal
+use Rattle.backward.proofs.faults.faults_back.Goals.{In_ok-fault}
 
 pub loop-left-init : goal.loop-left-init
 loop-left-init g c =

@@ -5,7 +5,7 @@ use Rattle.programs.specs.Kept.{kept_at}
 use Rattle.step_model.specs.Targets.{targets_of}
 use Rattle.backward.specs.private.Stretches.{Gives, line_for}
 use Rattle.backward.proofs.PassPlaces.{hit_in_range}
-use Rattle.backward.proofs.pass.note_listed.Goals as goal
+use Rattle.backward.proofs.faults.note_listed.Goals as goal
 
 pub note_line-requires-clause-named : goal.note_line-requires-clause-named
 note_line-requires-clause-named g c =

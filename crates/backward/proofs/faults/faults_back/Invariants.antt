@@ -3,7 +3,7 @@ use Rattle.std.specs.Prelude.{reverse}
 use Rattle.backward.specs.private.Passes.{IsPassed, Stays}
 use Rattle.backward.specs.private.Stretches.{Gives, lines_between}
 use Rattle.backward.proofs.PassFaults.{IsPending, pending}
-use Rattle.backward.proofs.pass.faults_back.Given as goal
+use Rattle.backward.proofs.faults.faults_back.Given as goal
 
 abbrev pub invariant-loop-left : goal.invariant-loop-left
 invariant-loop-left g l =

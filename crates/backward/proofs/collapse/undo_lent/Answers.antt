@@ -7,7 +7,7 @@ use Rattle.backward.specs.private.Collapses.{undone_collapse}
 use Rattle.backward.specs.private.Stretches.{Gives, flip_line}
 use Rattle.backward.proofs.RecordMembers.{members_at-ascend, members_at-within}
 use Rattle.backward.proofs.StepLemmas.{on_ok_any}
-use Rattle.backward.proofs.pass.undo_lent.Goals as goal
+use Rattle.backward.proofs.collapse.undo_lent.Goals as goal
 
 pub note_flip-requires-clause-named : goal.note_flip-requires-clause-named
 note_flip-requires-clause-named g c =

@@ -3,7 +3,7 @@ use Rattle.std.proofs.lemmas.Result.{on_ok_weaker}
 use Rattle.programs.specs.Kept.{kept_at}
 use Rattle.backward.specs.private.Stretches.{Gives}
 use Rattle.backward.proofs.LentHits.{gives_none, line_for_reversed}
-use Rattle.backward.proofs.pass.note_reversed.Goals as goal
+use Rattle.backward.proofs.faults.note_reversed.Goals as goal
 
 pub returns-then-is_empty-clause-lines : goal.returns-then-is_empty-clause-lines
 returns-then-is_empty-clause-lines g c =

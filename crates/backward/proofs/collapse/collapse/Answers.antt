@@ -10,7 +10,7 @@ use Rattle.trackers.specs.Tracked.{anticommuting}
 use Rattle.backward.proofs.PassSteps.{collapse_is_left, collapse_judged, collapse_keeps, collapse_line, collapse_lists, collapse_words, holds_same, latest_of_size, words_of_size}
 use Rattle.backward.proofs.RecordMembers.{record_has_set, record_named}
 use Rattle.backward.proofs.StepLemmas.{fits_after, over_failed, stays_as}
-use Rattle.backward.proofs.pass.collapse.Goals as goal
+use Rattle.backward.proofs.collapse.collapse.Goals as goal
 
 pub judge-requires-clause-words : goal.judge-requires-clause-words
 judge-requires-clause-words g c =
