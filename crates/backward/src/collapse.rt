@@ -81,8 +81,9 @@ fn undo_lent<'s, 'a, A: Allocator + Copy, T: Tracker, L: LineStore>(
     }
 }
 
-// The same where the targets have to be put into a buffer first, as after feedback.
-#[inline(never)]
+// The same where the targets have to be put into a buffer first, as after feedback. In line too: a call would take longer
+// to pass what it needs.
+#[inline(always)]
 fn undo_changed<'s, 'a, A: Allocator + Copy, T: Tracker, L: LineStore>(
     program: &Program<'a, A>,
     terms: &[Term],

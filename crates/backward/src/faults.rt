@@ -15,7 +15,7 @@ use crate::point::Point;
 use programs::{FaultName, Program};
 use std::alloc::{AllocError, Allocator};
 use step_model::Term;
-use trackers::Tracker;
+use trackers::{FEW, Tracker};
 
 /// Gives the line of the fault that flips a record, where there is one.
 pub(crate) fn note_flip<'a, A: Allocator + Copy, L: LineStore>(
@@ -76,8 +76,8 @@ fn note_reversed<L: LineStore>(entry: u32, targets: &[u32], lines: &mut L) -> Re
     }
 }
 
-// Gives the line of a fault of these letters, whose targets are put into a buffer. By a call, so that the loop over a run of
-// faults is short.
+// Gives the line of a fault of these letters. Its targets are put into a buffer, where they are few into a short one. By a call,
+// so that the loop over a run of faults is short.
 #[inline(never)]
 fn note_listed<'a, A: Allocator + Copy, T: Tracker, L: LineStore>(
     program: &Program<'a, A>,
@@ -99,6 +99,10 @@ fn note_listed<'a, A: Allocator + Copy, T: Tracker, L: LineStore>(
         (anticommuting terms.now (T.tracked tracker.old)))) }
     ensures store { L.program lines.new ≡ L.program lines.old }
 {
+    let mut few = [0; FEW];
+    if let Some(count) = tracker.few_hit(terms, &mut few) {
+        return note_reversed(entry, &few[..count], lines);
+    }
     tracker.hit(terms, hit)?;
     note_line(program, entry, hit.as_slice(), lines)
 }

@@ -167,6 +167,7 @@ impl<'s, A: Allocator + Copy> Found<'s, A> {
     }
 
     /// Puts into the buffer the targets that list a record.
+    #[inline(never)]
     pub(crate) fn list_record(&mut self, rec: Option<u32>) -> Result<(), AllocError>
         requires rec { IfSome rec (λ r. r < length self.old.lists) }
         requires long { All (λ set. length set ≤ 2 ^ 32) self.old.lists }

@@ -1,4 +1,4 @@
-ghost use Rattle.std.specs.Prelude.{◌≡◌, ◌<◌, ◌≤◌, ◌^◌, ◌++◌, map, length, true, All, IfOk, IfSome, OnOk};
+ghost use Rattle.std.specs.Prelude.{◌≡◌, ◌<◌, ◌≤◌, ◌^◌, ◌++◌, map, length, reverse, take, true, All, IfOk, IfSome, OnOk};
 ghost use Rattle.bit_rows.specs.Rows.{xor_rows};
 ghost use Rattle.pauli_word.specs.Bits.{x_bit, z_bit, letters_of};
 ghost use Rattle.pauli_word.specs.declared.letter.Letter.TheVariants.{I, X, Y, Z};
@@ -7,6 +7,7 @@ ghost use Rattle.pauli_word.specs.Words.{letters_product, no_letters};
 ghost use Rattle.trackers.specs.TargetSets.{members};
 ghost use Rattle.trackers.specs.private.Transposed.{combined, xor_where, times_each, column_of, lists_of};
 
+use crate::descending::FEW;
 use crate::target_set::{TargetSet, add_where, make_set, toggle_where};
 use flat_lists::FlatLists;
 use pauli_word::Letter;
@@ -261,21 +262,16 @@ impl<S: TargetSet> Column<S> {
         }
     }
 
-    /// Lists the targets for which just one of their letters in two columns clashes with Y, and answers whether it did:
-    /// it need not.
-    #[inline(never)]
-    pub(crate) fn list_clashing_y<B: Allocator + Copy>(
-        &self,
-        other: &Column<S>,
-        hit: &mut Vec<u32, B>,
-    ) -> Result<bool, AllocError>
+    /// Puts the targets for which just one of their letters in two columns clashes with Y at the start of `sum`, from the
+    /// greatest down, and answers how many these are, where it does: it need not.
+    pub(crate) fn sum_clashing_y(&self, other: &Column<S>, sum: &mut [u32; FEW]) -> Option<usize>
         requires { length self.now ≡ length other.now }
-        ensures { IfOk result (λ done. done ≡ true
-            → hit.new.items
+        ensures within { IfSome result (λ len. len ≤ FEW) }
+        ensures sum { IfSome result (λ len. reverse (take len sum.new)
             ≡ members
             (xor_rows (map (letters_clash Y) self.now) (map (letters_clash Y) other.now))) }
     {
-        self.x.list_sum_of_four(&self.z, &other.x, &other.z, hit)
+        self.x.sum_few_of_four(&self.z, &other.x, &other.z, sum)
     }
 
     /// Multiplies the letters of these targets by a letter. What the sets held is lost.

@@ -1,5 +1,5 @@
 //! All columns: kept as lists, restored from them, and asked where their words anticommute with a product.
-ghost use Rattle.std.specs.Prelude.{◌≡◌, ◌<◌, ◌≤◌, ◌*◌, ◌^◌, ◌∷◌, [], true, length, All, IfOk, OnOk, map, slice_index_or};
+ghost use Rattle.std.specs.Prelude.{◌≡◌, ◌<◌, ◌≤◌, ◌*◌, ◌^◌, ◌∷◌, [], length, reverse, take, All, IfOk, IfSome, OnOk, map, slice_index_or};
 ghost use Rattle.std.specs.List.{range_with_len};
 ghost use Rattle.pauli_word.specs.Words.{anticommute};
 ghost use Rattle.step_model.specs.Listing.{word_of_terms};
@@ -7,6 +7,7 @@ ghost use Rattle.trackers.specs.Tracked.{anticommuting};
 ghost use Rattle.trackers.specs.private.Transposed.{lists_of_each, tracked_of, word_at, AreRestored};
 
 use crate::column::{Column, is_y};
+use crate::descending::{FEW, list_ascending};
 use crate::target_set::TargetSet;
 use flat_lists::FlatLists;
 use std::alloc::{AllocError, Allocator};
@@ -70,42 +71,44 @@ pub(crate) fn list_hit<S: TargetSet, B: Allocator + Copy>(
         }
     }
     if let [first, second] = terms {
-        if list_both(columns, first, second, hit)? {
-            return Ok(());
+        let mut sum = [0; FEW];
+        if let Some(len) = sum_both(columns, first, second, &mut sum) {
+            return list_ascending(&sum[..len], hit);
         }
     }
     clashing(columns, terms, set, spare)?;
     set.list(hit)
 }
 
-// Lists the targets whose words anticommute with the product of two letters, and answers whether it did: it need not.
+/// Puts the targets whose words anticommute with the product of two letters at the start of `sum`, from the greatest down,
+/// and answers how many these are, where it does: it need not.
 #[inline(never)]
-fn list_both<S: TargetSet, B: Allocator + Copy>(
+pub(crate) fn sum_both<S: TargetSet>(
     columns: &[Column<S>],
     first: &Term,
     second: &Term,
-    hit: &mut Vec<u32, B>,
-) -> Result<bool, AllocError>
+    sum: &mut [u32; FEW],
+) -> Option<usize>
     requires first_in_range { first.now.qubit < length columns.now }
     requires second_in_range { second.now.qubit < length columns.now }
     requires same { length (slice_index_or columns.now first.now.qubit [])
         ≡ length (slice_index_or columns.now second.now.qubit []) }
-    ensures { IfOk result (λ done. done ≡ true
-        → hit.new.items
+    ensures within { IfSome result (λ len. len ≤ FEW) }
+    ensures sum { IfSome result (λ len. reverse (take len sum.new)
         ≡ anticommuting (first.now ∷ second.now ∷ [])
         (tracked_of (length (slice_index_or columns.now first.now.qubit [])) columns.now)) }
 {
     let one = &columns[first.qubit as usize];
     let other = &columns[second.qubit as usize];
     if is_y(first.letter) && is_y(second.letter) {
-        return one.list_clashing_y(other, hit);
+        return one.sum_clashing_y(other, sum);
     }
     match (
         one.kept_clashing(first.letter),
         other.kept_clashing(second.letter),
     ) {
-        (Some(one), Some(other)) => one.list_sum(other, hit),
-        _ => Ok(false),
+        (Some(one), Some(other)) => one.sum_few(other, sum),
+        _ => None,
     }
 }
 

@@ -1,12 +1,12 @@
 //! Descending lists: changed where they stand, merged, and listed in ascending order.
-ghost use Rattle.std.specs.Prelude.{◌≡◌, ◌<◌, ◌≤◌, ◌+◌, ◌-◌, ◌∷◌, ◌++◌, [], ℕ, take, true, insert, length, remove, reverse, slice_index, IfOk, IfSome, OnOk, OnErr};
+ghost use Rattle.std.specs.Prelude.{◌≡◌, ◌<◌, ◌≤◌, ◌+◌, ◌-◌, ◌∷◌, ◌++◌, [], ℕ, take, true, insert, length, remove, reverse, slice_index, IfSome, OnOk, OnErr};
 ghost use Rattle.trackers.specs.private.Sets.{xor_sets, DescendsBelow};
 
 use smallvec::SmallVec;
 use std::alloc::{AllocError, Allocator};
 
 /// Two lists are short where they have at most this many together.
-pub(crate) const FEW: usize = 16;
+pub const FEW: usize = 16;
 
 /// Puts the first `len` of these in place of what a list holds, which is emptied by an error. Each length up to four has
 /// an arm of its own, in which it is known what places stay blank: else to make them blank is a call.
@@ -260,45 +260,17 @@ fn append_few(sum: &mut [u32; 16], len: usize, rest: &[u32]) -> usize
     end
 }
 
-/// Lists the exclusive or of two descending lists in ascending order, and answers whether it did: it does where one is
-/// empty, or both are short.
-pub(crate) fn list_sum<B: Allocator + Copy>(
-    first: &[u32],
-    second: &[u32],
-    into: &mut Vec<u32, B>,
-) -> Result<bool, AllocError>
-    ensures { IfOk result (λ done. done ≡ true
-        → into.new.items ≡ reverse (xor_sets first.now second.now)) }
-{
-    if first.is_empty() {
-        list_ascending(second, into)?;
-        return Ok(true);
-    }
-    if second.is_empty() {
-        list_ascending(first, into)?;
-        return Ok(true);
-    }
-    let mut sum = [0; FEW];
-    match sum_few(first, second, &mut sum) {
-        Some(len) => {
-            list_ascending(&sum[..len], into)?;
-            Ok(true)
-        }
-        None => Ok(false),
-    }
-}
-
 /// The same for four descending lists, added up two by two.
-pub(crate) fn list_sum_of_four<B: Allocator + Copy>(
+pub(crate) fn sum_few_of_four(
     first: &[u32],
     second: &[u32],
     third: &[u32],
     fourth: &[u32],
-    into: &mut Vec<u32, B>,
-) -> Result<bool, AllocError>
-    ensures { IfOk result (λ done. done ≡ true
-        → into.new.items
-        ≡ reverse (xor_sets (xor_sets first.now second.now) (xor_sets third.now fourth.now))) }
+    sum: &mut [u32; 16],
+) -> Option<usize>
+    ensures within { IfSome result (λ len. len ≤ 16) }
+    ensures sum { IfSome result (λ len. take len sum.new
+        ≡ xor_sets (xor_sets first.now second.now) (xor_sets third.now fourth.now)) }
 {
     let mut front = [0; FEW];
     let mut back = [0; FEW];
@@ -306,11 +278,12 @@ pub(crate) fn list_sum_of_four<B: Allocator + Copy>(
         sum_few(first, second, &mut front),
         sum_few(third, fourth, &mut back),
     ) {
-        (Some(front_len), Some(back_len)) => list_sum(&front[..front_len], &back[..back_len], into),
-        _ => Ok(false),
+        (Some(front_len), Some(back_len)) => sum_few(&front[..front_len], &back[..back_len], sum),
+        _ => None,
     }
 }
 
+/// Puts a list into `into` the other way round, in place of what it held.
 pub(crate) fn list_ascending<B: Allocator + Copy>(
     items: &[u32],
     into: &mut Vec<u32, B>,

@@ -3,7 +3,7 @@ ghost use Rattle.std.specs.Prelude.{◌≡◌, false, length, replicate, OnOk};
 ghost use Rattle.bit_rows.specs.Rows.{xor_rows};
 
 use crate::descending::{
-    FEW, add_many, empty, list_ascending, list_sum, list_sum_of_four, put_few, sum_few, toggle_in,
+    FEW, add_many, empty, list_ascending, put_few, sum_few, sum_few_of_four, toggle_in,
 };
 use crate::target_set::TargetSet;
 use smallvec::SmallVec;
@@ -103,27 +103,23 @@ impl<'a, A: Allocator + Copy> TargetSet for SparseSet<'a, A> {
         Some(self.items.as_slice())
     }
 
-    fn list_sum<B: Allocator + Copy>(
-        &self,
-        other: &Self,
-        into: &mut Vec<u32, B>,
-    ) -> Result<bool, AllocError> {
-        list_sum(self.items.as_slice(), other.items.as_slice(), into)
+    fn sum_few(&self, other: &Self, sum: &mut [u32; FEW]) -> Option<usize> {
+        sum_few(self.items.as_slice(), other.items.as_slice(), sum)
     }
 
-    fn list_sum_of_four<B: Allocator + Copy>(
+    fn sum_few_of_four(
         &self,
         second: &Self,
         third: &Self,
         fourth: &Self,
-        into: &mut Vec<u32, B>,
-    ) -> Result<bool, AllocError> {
-        list_sum_of_four(
+        sum: &mut [u32; FEW],
+    ) -> Option<usize> {
+        sum_few_of_four(
             self.items.as_slice(),
             second.items.as_slice(),
             third.items.as_slice(),
             fourth.items.as_slice(),
-            into,
+            sum,
         )
     }
 }

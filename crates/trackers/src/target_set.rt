@@ -1,10 +1,11 @@
 //! Sets of targets, in which tracked words are kept.
-ghost use Rattle.std.specs.Prelude.{◌≡◌, ◌<◌, ◌≤◌, ◌^◌, false, true, not, length, filter, replicate, reverse, All, IfOk, IfSome, OnOk, List, Bool, slice_index_or, slice_set};
+ghost use Rattle.std.specs.Prelude.{◌≡◌, ◌<◌, ◌≤◌, ◌^◌, false, true, not, length, filter, replicate, reverse, take, All, IfOk, IfSome, OnOk, List, Bool, slice_index_or, slice_set};
 ghost use Rattle.std.specs.List.{range_with_len};
 ghost use Rattle.bit_rows.specs.Rows.{xor_rows};
 ghost use Rattle.trackers.specs.TargetSets.{members, row_of_set};
 ghost use Rattle.trackers.specs.private.Transposed.{xor_where, AreAsLong};
 
+use crate::descending::FEW;
 use bit_rows::BitRow;
 use std::alloc::{AllocError, Allocator};
 
@@ -52,28 +53,26 @@ pub trait TargetSet: Drop {
     fn kept(&self) -> Option<&[u32]>
         ensures { IfSome result (λ list. reverse list.now ≡ members (bits self.now)) };
 
-    /// Puts the targets that are in just one of two sets into `into`, ascending, in place of what it held, and answers
-    /// whether it did. A set need not do it; it is for sets of few targets.
-    fn list_sum<B: Allocator + Copy>(
-        &self,
-        other: &Self,
-        into: &mut Vec<u32, B>,
-    ) -> Result<bool, AllocError>
+    /// Puts the targets that are in just one of two sets at the start of `sum`, from the greatest down, and answers how many
+    /// these are, where it does: a set need not. It is for sets of few targets.
+    fn sum_few(&self, other: &Self, sum: &mut [u32; FEW]) -> Option<usize>
         requires { length (bits self.now) ≡ length (bits other.now) }
-        ensures { IfOk result (λ done. done ≡ true → into.new.items ≡ members (xor_rows (bits self.now) (bits other.now))) };
+        ensures within { IfSome result (λ len. len ≤ FEW) }
+        ensures sum { IfSome result (λ len. reverse (take len sum.new) ≡ members (xor_rows (bits self.now) (bits other.now))) };
 
     /// The same for the targets that are in an odd number of four sets.
-    fn list_sum_of_four<B: Allocator + Copy>(
+    fn sum_few_of_four(
         &self,
         second: &Self,
         third: &Self,
         fourth: &Self,
-        into: &mut Vec<u32, B>,
-    ) -> Result<bool, AllocError>
+        sum: &mut [u32; FEW],
+    ) -> Option<usize>
         requires second { length (bits self.now) ≡ length (bits second.now) }
         requires third { length (bits self.now) ≡ length (bits third.now) }
         requires fourth { length (bits self.now) ≡ length (bits fourth.now) }
-        ensures { IfOk result (λ done. done ≡ true → into.new.items ≡ members (xor_rows (xor_rows (bits self.now) (bits second.now)) (xor_rows (bits third.now) (bits fourth.now)))) };
+        ensures within { IfSome result (λ len. len ≤ FEW) }
+        ensures sum { IfSome result (λ len. reverse (take len sum.new) ≡ members (xor_rows (xor_rows (bits self.now) (bits second.now)) (xor_rows (bits third.now) (bits fourth.now)))) };
 }
 
 impl<A: Allocator + Copy> TargetSet for BitRow<A> {
@@ -101,22 +100,18 @@ impl<A: Allocator + Copy> TargetSet for BitRow<A> {
         None
     }
 
-    fn list_sum<B: Allocator + Copy>(
-        &self,
-        _other: &Self,
-        _into: &mut Vec<u32, B>,
-    ) -> Result<bool, AllocError> {
-        Ok(false)
+    fn sum_few(&self, _other: &Self, _sum: &mut [u32; FEW]) -> Option<usize> {
+        None
     }
 
-    fn list_sum_of_four<B: Allocator + Copy>(
+    fn sum_few_of_four(
         &self,
         _second: &Self,
         _third: &Self,
         _fourth: &Self,
-        _into: &mut Vec<u32, B>,
-    ) -> Result<bool, AllocError> {
-        Ok(false)
+        _sum: &mut [u32; FEW],
+    ) -> Option<usize> {
+        None
     }
 
     fn list<B: Allocator + Copy>(&self, into: &mut Vec<u32, B>) -> Result<(), AllocError> {

@@ -1,28 +1,26 @@
-use Rattle.std.proofs.Common.{◌≡◌, ◌∷◌, [], List, length, get_or, ap, sym, ◌∙◌, arith}
+use Rattle.std.proofs.Common.{◌≡◌, ◌∷◌, [], length, get_or, ap, sym, ◌∙◌, arith}
 use Rattle.std.specs.Prelude.{map}
 use Rattle.std.specs.List.{range_with_len}
 use Rattle.std.proofs.lemmas.Result.{on_ok_weaker}
 use Rattle.pauli_word.specs.Letters.{letters_clash}
 use Rattle.pauli_word.specs.Words.{anticommute}
-use Rattle.step_model.specs.declared.step.Term.{Term}
 use Rattle.step_model.specs.Listing.{word_of_terms}
-use Rattle.trackers.specs.Tracked.{anticommuting}
-use Rattle.trackers.specs.private.Transposed.{tracked_of, word_at}
+use Rattle.trackers.specs.private.Transposed.{word_at}
 use Rattle.trackers.proofs.LengthLemmas.{column_at}
 use Rattle.trackers.proofs.LoneTerms.{lone_clash}
-use Rattle.trackers.proofs.SetLemmas.{only_one, only_two}
+use Rattle.trackers.proofs.SetLemmas.{only_one}
 use Rattle.trackers.proofs.TransposedLemmas.{ones_are_hit}
 use Rattle.trackers.proofs.WordLemmas.{no_term, term_below}
 use Rattle.trackers.proofs.columns.list_hit.Goals as goal
 
-pub list_both-requires-clause-first_in_range : goal.list_both-requires-clause-first_in_range
-list_both-requires-clause-first_in_range g c = term_below c.args.terms.now _ 0 c.requires.terms (omega (arith, c.in-len2.len_at_least))
+pub sum_both-requires-clause-first_in_range : goal.sum_both-requires-clause-first_in_range
+sum_both-requires-clause-first_in_range g c = term_below c.args.terms.now _ 0 c.requires.terms (omega (arith, c.in-len2.len_at_least))
 
-pub list_both-requires-clause-second_in_range : goal.list_both-requires-clause-second_in_range
-list_both-requires-clause-second_in_range g c = term_below c.args.terms.now _ 1 c.requires.terms (omega (arith, c.in-len2.len_at_least))
+pub sum_both-requires-clause-second_in_range : goal.sum_both-requires-clause-second_in_range
+sum_both-requires-clause-second_in_range g c = term_below c.args.terms.now _ 1 c.requires.terms (omega (arith, c.in-len2.len_at_least))
 
-pub list_both-requires-clause-same : goal.list_both-requires-clause-same
-list_both-requires-clause-same g c =
+pub sum_both-requires-clause-same : goal.sum_both-requires-clause-same
+sum_both-requires-clause-same g c =
     c.requires.long _ [] (term_below c.args.terms.now _ 0 c.requires.terms (omega (arith, c.in-len2.len_at_least)))
     ∙ sym (c.requires.long _ [] (term_below c.args.terms.now _ 1 c.requires.terms (omega (arith, c.in-len2.len_at_least))))
 
@@ -45,13 +43,3 @@ returns-clause-hit g c =
     on_ok_weaker c.list-2.result
     (λ h. h ∙ ones_are_hit (length (g.S.TargetSet.bits c.args.set.now)) c.args.columns.now c.args.terms.now (g.S.TargetSet.bits c.clashing.new.set) c.in_ok-clashing.ensures.ok)
     c.list-2.ensures
-
-pub returns-then-branch-clause-hit : goal.returns-then-branch-clause-hit
-returns-then-branch-clause-hit g c =
-    let columns = c.args.columns.now in
-    let terms = c.args.terms.now in
-    let first = get_or terms 0 no_term in
-    let both : terms ≡ first ∷ get_or terms 1 no_term ∷ [] = only_two terms no_term (omega (arith, c.in-len2.len_at_least, c.in-len2.len_below)) in
-    c.in_ok-list_both.ensures c.if-branch.true
-    ∙ (ap (λ n. anticommuting (first ∷ get_or terms 1 no_term ∷ []) (tracked_of n columns)) (c.requires.long _ [] (term_below terms _ 0 c.requires.terms (omega (arith, c.in-len2.len_at_least))))
-    ∙ ap (λ (ts : List Term). anticommuting ts (tracked_of (length (g.S.TargetSet.bits c.args.set.now)) columns)) (sym both))

@@ -1,14 +1,14 @@
 use Rattle.std.proofs.Common.{ap, ap₂, subst, sym, ◌∙◌}
 use Rattle.std.specs.Prelude.{reverse}
-use Rattle.std.proofs.lemmas.Result.{IfOk-weaker}
+use Rattle.std.proofs.lemmas.Option.{IfSome_then}
 use Rattle.bit_rows.specs.Rows.{xor_rows}
 use Rattle.trackers.specs.private.Sets.{DescendsBelow, xor_sets}
 use Rattle.trackers.specs.TargetSets.{members, row_of_set}
 use Rattle.trackers.proofs.SetLemmas.{row_of_xor_sets, same_count, DescendsBelow-xor_sets, reverse_is_members}
-use Rattle.trackers.proofs.sparse_set.SparseSetTargetSet.list_sum_of_four.Goals as goal
+use Rattle.trackers.proofs.sparse_set.SparseSetTargetSet.sum_few_of_four.Goals as goal
 
-pub returns : goal.returns
-returns g c =
+pub returns-clause-sum : goal.returns-clause-sum
+returns-clause-sum g c =
     let m = c.self.inside.targets in
     let one = c.self.inside.items.items in
     let two = c.second.inside.items.items in
@@ -24,9 +24,8 @@ returns g c =
     DescendsBelow-xor_sets m three four (subst (λ n. DescendsBelow n three) (sym counted_three) c.third.invariant) (subst (λ n. DescendsBelow n four) (sym counted_four) c.fourth.invariant) in
     let front_row = row_of_xor_sets m one two ∙ ap₂ xor_rows c.self.view_is (ap (λ n. row_of_set n two) counted_two ∙ c.second.view_is) in
     let back_row = row_of_xor_sets m three four ∙ ap₂ xor_rows (ap (λ n. row_of_set n three) counted_three ∙ c.third.view_is) (ap (λ n. row_of_set n four) counted_four ∙ c.fourth.view_is) in
-    IfOk-weaker c.list_sum_of_four.result _ _
-    (λ ok h done. h done
+    IfSome_then c.sum_few_of_four.result c.sum_few_of_four.ensures.sum
+    (λ len h. ap reverse h
     ∙ (ap reverse (ap₂ xor_sets (ap₂ xor_sets c.as_slice.ensures c.as_slice-2.ensures) (ap₂ xor_sets c.as_slice-3.ensures c.as_slice-4.ensures))
     ∙ (reverse_is_members m (xor_sets front back) (DescendsBelow-xor_sets m front back front_descends back_descends)
     ∙ ap members (row_of_xor_sets m front back ∙ ap₂ xor_rows front_row back_row))))
-    c.list_sum_of_four.ensures
