@@ -135,6 +135,10 @@ fn lowest_random(
         → d < r.0
         → place_from (slice_index_or latest.now d None) (slice_index_or lowest.now d None) ≡ None) }
 {
+    // As it mostly is.
+    if latest.is_empty() && lowest.is_empty() {
+        return None;
+    }
     for d in 0..targets {
         if let Some(place) = place_from(noted_for(latest, d), noted_for(lowest, d)) {
             return Some((d as u32, place));
