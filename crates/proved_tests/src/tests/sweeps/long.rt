@@ -8,23 +8,24 @@ use step_model::{Fault, MemorySink, read_all};
 use streams::Pieces;
 use test_support::SlowSource;
 
-/// Puts a line of 20 bytes, and one of 68 with many targets, which goes in parts.
-fn put_two<'m>(lines: &mut LinesText<'static, Memory<'m>>, text: usize) -> Result<(), AllocError>
+/// Puts a line of 20 bytes, and two of 68 with many targets, which go in parts.
+fn put_three<'m>(lines: &mut LinesText<'static, Memory<'m>>, text: usize) -> Result<(), AllocError>
     requires text { text < length lines.old.texts }
     requires targets { lines.old.targets ≡ 3 }
     ensures texts { lines.new.texts ≡ lines.old.texts }
     ensures targets { lines.new.targets ≡ lines.old.targets }
 {
     lines.put_line(text, &[2])?;
-    lines.put_line(text, &[2; 17])
+    lines.put_line(text, &[2; 17])?;
+    lines.put_line_reversed(text, &[2; 17])
 }
 
 /// So many lines, of two detectors and an observable, that they fill two blocks of 64 KiB, and begin a third.
 fn many_lines(memory: Memory<'_>) -> Result<LinesText<'static, Memory<'_>>, AllocError> {
     let mut lines = LinesText::new(memory, 2, 3)?;
     let text = lines.keep_text(b"1.000e-12")?;
-    for turn in 0..2_000u32 {
-        put_two(&mut lines, text)?;
+    for turn in 0..1_200u32 {
+        put_three(&mut lines, text)?;
     }
     Ok(lines)
 }
@@ -40,7 +41,7 @@ fn length_of<'m>(lines: &mut LinesText<'_, Memory<'m>>, alloc: Global) -> Result
 
 pub(super) fn lines_are_right(ration: Ration<'_>) -> Result<bool, Fault> {
     match many_lines(ration.begin()) {
-        Ok(mut lines) => Ok(length_of(&mut lines, ration.alloc)? == 176_000),
+        Ok(mut lines) => Ok(length_of(&mut lines, ration.alloc)? == 187_200),
         Err(_) => Err(Fault::MEMORY),
     }
 }
