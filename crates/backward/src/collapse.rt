@@ -38,7 +38,7 @@ pub(crate) fn collapse<'s, 'p, 'a, A: Allocator + Copy, T: Tracker, L: LineStore
     program.well_formed();
     let targets = target_count(program);
     found.judge(targets, terms, &mut at.tracker)?;
-    undo_lent(
+    take_back(
         program,
         terms,
         reset,
@@ -53,9 +53,9 @@ pub(crate) fn collapse<'s, 'p, 'a, A: Allocator + Copy, T: Tracker, L: LineStore
 }
 
 // Gives the line of the fault that flips the record of a collapse, and takes the words back. Mostly the targets that list
-// the record are lent.
+// the record are lent; else they are put into a buffer first.
 #[inline(always)]
-fn undo_lent<'s, 'a, A: Allocator + Copy, T: Tracker, L: LineStore>(
+fn take_back<'s, 'a, A: Allocator + Copy, T: Tracker, L: LineStore>(
     program: &Program<'a, A>,
     terms: &[Term],
     reset: Option<u32>,
@@ -77,33 +77,13 @@ fn undo_lent<'s, 'a, A: Allocator + Copy, T: Tracker, L: LineStore>(
             note_flip(program, flip, listed, lines)?;
             undo_collapse(tracker, listed, terms, reset)
         }
-        None => undo_changed(program, terms, reset, rec, flip, tracker, found, lines),
+        // As after feedback.
+        None => {
+            found.list_record(rec)?;
+            note_flip(program, flip, found.hit.as_slice(), lines)?;
+            undo_collapse(tracker, found.hit.as_slice(), terms, reset)
+        }
     }
-}
-
-// The same where the targets have to be put into a buffer first, as after feedback. In line too: a call would take longer
-// to pass what it needs.
-#[inline(always)]
-fn undo_changed<'s, 'a, A: Allocator + Copy, T: Tracker, L: LineStore>(
-    program: &Program<'a, A>,
-    terms: &[Term],
-    reset: Option<u32>,
-    rec: Option<u32>,
-    flip: Option<FaultName>,
-    tracker: &mut T,
-    found: &mut Found<'s, A>,
-    lines: &mut L,
-) -> Result<(), AllocError>
-    requires fits { FitsCollapse program.now (T.tracked tracker.old) found.old.lists terms.now reset
-        rec flip }
-    requires store { L.program lines.old ≡ program.now }
-    ensures { IsTakenBack L.program L.holds program.now terms.now reset rec flip
-        (T.tracked tracker.old) (T.tracked tracker.new) found.old found.new lines.old lines.new
-        result }
-{
-    found.list_record(rec)?;
-    note_flip(program, flip, found.hit.as_slice(), lines)?;
-    undo_collapse(tracker, found.hit.as_slice(), terms, reset)
 }
 
 // Puts I at the qubit that is reset, where one is, and then multiplies the words of the targets that list the record

@@ -30,8 +30,8 @@ judge-requires-clause-long g c =
     let f = c.args.found.now in
     λ e. subst (λ n. length (opened n f.latest.items) ≡ n) (sym c.target_count-targets.ensures.count) (latest_of_size program f.settled (c.args.at.now.walk.place + 1) f.latest.items f.left c.requires.passed.judged e)
 
-pub undo_lent-requires-clause-fits : goal.undo_lent-requires-clause-fits
-undo_lent-requires-clause-fits g c =
+pub take_back-requires-clause-fits : goal.take_back-requires-clause-fits
+take_back-requires-clause-fits g c =
     let program = c.args.program.now.listing in
     let at = c.args.at.now in
     let f = c.args.found.now in
@@ -55,16 +55,16 @@ let_go-requires g c =
     let program = c.args.program.now in
     let f = c.args.found.now in
     let lists = c.requires.passed.lists in
-    subst (λ (sets : List (List Bool)). IfSome c.args.rec (λ r. r < length sets)) (sym (c.in_ok-undo_lent.ensures.lists ∙ c.judge.ensures.lists))
+    subst (λ (sets : List (List Bool)). IfSome c.args.rec (λ r. r < length sets)) (sym (c.in_ok-take_back.ensures.lists ∙ c.judge.ensures.lists))
     (record_has_set c.args.rec program.listing.records (length f.lists) lists.size (record_named program c.args.rec c.requires.step.is_record))
 
 pub returns-in_err-judge : goal.returns-in_err-judge
 returns-in_err-judge g c = over_failed (err_from_is_err_and c.from_residual.result c.from_residual.ensures.1).1 refl (stays_as c.judge.ensures.settled c.judge.ensures.keeps c.judge.ensures.known) refl
 
-pub returns-in_err-undo_lent : goal.returns-in_err-undo_lent
-returns-in_err-undo_lent g c =
-    let e = c.undo_lent.ensures in
-    over_failed (err_from_is_err_and c.from_residual-in_err-undo_lent.result c.from_residual-in_err-undo_lent.ensures.1).1 refl (stays_as (e.settled ∙ c.judge.ensures.settled) (e.keeps ∙ c.judge.ensures.keeps) (e.known ∙ c.judge.ensures.known)) e.store
+pub returns-in_err-take_back : goal.returns-in_err-take_back
+returns-in_err-take_back g c =
+    let e = c.take_back.ensures in
+    over_failed (err_from_is_err_and c.from_residual-in_err-take_back.result c.from_residual-in_err-take_back.ensures.1).1 refl (stays_as (e.settled ∙ c.judge.ensures.settled) (e.keeps ∙ c.judge.ensures.keeps) (e.known ∙ c.judge.ensures.known)) e.store
 
 pub returns : goal.returns
 returns g c =
@@ -76,16 +76,16 @@ returns g c =
     let holds = g.L.LineStore.holds in
     let fits = c.well_formed-2.ensures.listing in
     let now = c.let_go.new.self in
-    let settled = c.undo_lent.ensures.settled ∙ c.judge.ensures.settled in
-    let known = c.undo_lent.ensures.known ∙ c.judge.ensures.known in
-    let lists = c.in_ok-undo_lent.ensures.lists ∙ c.judge.ensures.lists in
+    let settled = c.take_back.ensures.settled ∙ c.judge.ensures.settled in
+    let known = c.take_back.ensures.known ∙ c.judge.ensures.known in
+    let lists = c.in_ok-take_back.ensures.lists ∙ c.judge.ensures.lists in
     let hit = ap (λ l. members_at l c.args.rec) c.judge.ensures.lists in
     let members = members_at c.judge.new.self.lists c.args.rec in
     let judged = collapse_judged program place c.args.terms.now c.args.reset c.args.rec c.args.flip tracked f fits c.requires.step c.requires.passed now.latest.items now.left
-    (λ e. ap (λ l. opened (length (targets_of program.listing)) l.items) (c.let_go.ensures.latest ∙ c.undo_lent.ensures.latest)
+    (λ e. ap (λ l. opened (length (targets_of program.listing)) l.items) (c.let_go.ensures.latest ∙ c.take_back.ensures.latest)
     ∙ subst (λ n. opened n c.judge.new.self.latest.items ≡ noted (f.left - 1) (anticommuting c.args.terms.now tracked) (opened n f.latest.items)) c.target_count-targets.ensures.count (c.in_ok-judge.ensures.latest e))
-    (λ e. c.let_go.ensures.left ∙ (c.undo_lent.ensures.left ∙ c.in_ok-judge.ensures.left e)) in
-    let keeps = c.undo_lent.ensures.keeps ∙ c.judge.ensures.keeps in
+    (λ e. c.let_go.ensures.left ∙ (c.take_back.ensures.left ∙ c.in_ok-judge.ensures.left e)) in
+    let keeps = c.take_back.ensures.keeps ∙ c.judge.ensures.keeps in
     record {
       undone =
           record {
@@ -93,7 +93,7 @@ returns g c =
             passed =
                 record {
                   within = omega (arith, c.requires.passed.within);
-                  words = collapse_words program place c.args.terms.now c.args.reset c.args.rec c.args.flip tracked f fits c.requires.step c.requires.passed members _ hit (c.in_ok-undo_lent.ensures.words ∙ ap (undone_collapse members c.args.terms.now c.args.reset) c.judge.ensures.words);
+                  words = collapse_words program place c.args.terms.now c.args.reset c.args.rec c.args.flip tracked f fits c.requires.step c.requires.passed members _ hit (c.in_ok-take_back.ensures.words ∙ ap (undone_collapse members c.args.terms.now c.args.reset) c.judge.ensures.words);
                   lists = c.let_go.ensures.lists program.listing place (collapse_keeps program place c.args.terms.now c.args.reset c.args.rec c.args.flip tracked f fits c.requires.step c.requires.passed _ known)
                       (holds_same program.listing _ _ place _ _ _ _ settled known lists (collapse_lists program place c.args.terms.now c.args.reset c.args.rec c.args.flip tracked f fits c.requires.step c.requires.passed));
                   judged = subst (λ s. IsJudged program.listing s place now.latest.items now.left) (sym (c.let_go.ensures.settled ∙ settled)) judged;
@@ -101,8 +101,8 @@ returns g c =
             stays = record { settled = c.let_go.ensures.settled ∙ settled; keeps = c.let_go.ensures.keeps ∙ keeps; known = λ e. c.let_go.ensures.known (keeps ∙ e) ∙ known };
           };
       lines =
-          subst (Gives (holds c.args.lines.now) (holds c.undo_lent.new.lines))
+          subst (Gives (holds c.args.lines.now) (holds c.take_back.new.lines))
           (collapse_line program place c.args.terms.now c.args.reset c.args.rec c.args.flip tracked f fits c.requires.step c.requires.passed members hit)
-          c.in_ok-undo_lent.ensures.lines;
-      store = c.undo_lent.ensures.store;
+          c.in_ok-take_back.ensures.lines;
+      store = c.take_back.ensures.store;
     }
