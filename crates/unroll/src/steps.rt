@@ -258,11 +258,13 @@ pub(crate) fn push_steps<A: Allocator + Copy>(
         (Adds (plain_steps operation products flip (list_in targets.entry)) builder.old builder.new) }
 {
     let single = match operation {
+        // Gates have a loop of their own, since most targets are theirs.
         Operation::Applies(gate) => {
-            if gate.arity() != 1 {
-                return push_pairs(builder, gate, targets);
-            }
-            Single::Applies(gate)
+            return if gate.arity() == 1 {
+                push_singles(builder, Single::Applies(gate), targets)
+            } else {
+                push_pairs(builder, gate, targets)
+            };
         }
         Operation::Measurement(letter) => Single::Measurement {
             letter,
