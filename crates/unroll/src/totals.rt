@@ -126,10 +126,14 @@ impl Totals {
         self.qubits = self.qubits.max(reach.qubits);
         self.far_line = first_line(self.far_line, reach.is_far, line);
         match operation {
-            // A gate adds to nothing else, and most lines are gates or errors.
+            // A gate adds to nothing else, and most lines are gates, errors or detectors.
             Operation::Applies(_) => {}
             Operation::PauliError(_) => self.faults = capped_sum(self.faults, targets),
             Operation::CorrelatedError => self.faults = capped_sum(self.faults, 1),
+            Operation::DetectorDeclaration => {
+                self.detectors = capped_sum(self.detectors, 1);
+                self.listed = capped_sum(self.listed, targets);
+            }
             _ => {
                 let flips = has_argument(instruction);
                 let named = named_to(instruction);
