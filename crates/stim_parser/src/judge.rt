@@ -155,20 +155,23 @@ fn opens_block<O: Copy>(keyword: Keyword<O>) -> bool
     matches!(keyword, Keyword::Repeats)
 }
 
-/// The refusal of a block, by how often it is repeated.
-fn refusal_of_block<O: Copy>(
-    causes: Causes,
+/// The refusal of a block, by how often it is repeated. There is none of a line that opens no block.
+fn refusal_of_block<O: Copy, T: Copy, F: Copy, J: Judge<O, T, F>>(
     depth: usize,
     keyword: Keyword<O>,
-    turns: u64,
+    targets: &[T],
 ) -> Option<Cause>
-    ensures { result ≡ first_of (refusals_of_block causes depth keyword turns) }
+    ensures { result
+        ≡ first_of (refusals_of_block J.table.causes depth keyword (J.table.turns_of targets.now)) }
 {
-    if opens_block(keyword) && turns == 0 {
-        return Some(causes.repeat_zero);
+    if !opens_block(keyword) {
+        return None;
     }
-    if opens_block(keyword) && depth >= LEVELS {
-        return Some(causes.depth);
+    if J::turns_of(targets) == 0 {
+        return Some(J::causes().repeat_zero);
+    }
+    if depth >= LEVELS {
+        return Some(J::causes().depth);
     }
     None
 }
@@ -196,7 +199,7 @@ fn refusal_of_amounts<O: Copy, T: Copy, F: Copy, J: Judge<O, T, F>>(
     }
     match J::refusal_of_targets(form, line.targets, targets) {
         Some(cause) => Some(cause),
-        None => refusal_of_block(J::causes(), depth, keyword, J::turns_of(targets)),
+        None => refusal_of_block::<O, T, F, J>(depth, keyword, targets),
     }
 }
 

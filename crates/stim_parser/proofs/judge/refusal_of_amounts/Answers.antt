@@ -33,5 +33,5 @@ returns-in-None g c =
     let table = g.J.Judge.table in
     let keyword = c.args.keyword in
     c.refusal_of_block.ensures
-    ∙ ap₂ (λ causes turns. first_of (refusals_of_block causes c.args.depth keyword turns)) c.causes-in-None.ensures (c.turns_of.ensures ∙ ap table.turns_of c.requires.targets)
+    ∙ ap (λ turns. first_of (refusals_of_block table.causes c.args.depth keyword turns)) (ap table.turns_of c.requires.targets)
     ∙ sym (amounts-targets table c.args.depth keyword (cut_in c.args.line) None (within g here) (found g here None c.in-None.is))
