@@ -10,10 +10,10 @@ use Rattle.pauli_word.proofs.Parities.{exclusive_or_assoc, exclusive_or_left_com
 use Rattle.step_model.specs.Targets.{is_listed}
 use Rattle.backward.specs.private.Apart.{with_apart, AreToggled}
 use Rattle.backward.specs.private.Collapses.{toggled_each}
-use Rattle.trackers.specs.TargetSets.{members, row_of_set}
+use Rattle.step_model.specs.TargetSets.{members, row_of_set}
 use Rattle.backward.proofs.LinkLemmas.{put_members, toggled_from_none}
 use Rattle.backward.proofs.PassSets.{length-toggled_each, toggled_each_at}
-use Rattle.trackers.proofs.SetLemmas.{length-row_of_set, get_or-row_of_set}
+use Rattle.step_model.proofs.RowLemmas.{length-row_of_set, get_or-row_of_set}
 
 -- ---- the rows, with that of the record whose set is apart
 pub length-with_apart : (m : ℕ) (rows : List (List Bool)) (apart : Option ℕ) (xs : List ℕ) → length (with_apart m rows apart xs) ≡ length rows

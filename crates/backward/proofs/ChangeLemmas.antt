@@ -11,9 +11,9 @@ use Rattle.step_model.specs.Targets.{is_listed}
 use Rattle.backward.specs.private.Apart.{AreToggled, IsApart, IsChanged, IsUnchanged, with_apart, with_changes}
 use Rattle.backward.specs.private.Collapses.{toggled_each}
 use Rattle.backward.specs.private.RecordSets.{opened_sets}
-use Rattle.trackers.specs.TargetSets.{members, row_of_set, toggled}
+use Rattle.step_model.specs.TargetSets.{members, row_of_set, toggled}
 use Rattle.backward.proofs.ApartLemmas.{all-with_apart, length-with_apart, row_of_members}
-use Rattle.trackers.proofs.SetLemmas.{none_added, row_of_no_set, toggled_sum}
+use Rattle.step_model.proofs.RowLemmas.{none_added, row_of_no_set, toggled_sum}
 use Rattle.trackers.proofs.TransposedLemmas.{length-xor_rows}
 
 pub length-with_changes : (rows changes : List (List Bool)) → length (with_changes rows changes) ≡ length rows

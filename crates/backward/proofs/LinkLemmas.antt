@@ -13,11 +13,11 @@ use Rattle.step_model.specs.Targets.{is_listed}
 use Rattle.backward.specs.declared.record_lists.Link.{Link}
 use Rattle.backward.specs.private.Collapses.{toggled_each}
 use Rattle.backward.specs.private.Links.{no_link, chain, list_at, rows_at, LeadBack, AreLists, IsGrown, IsPutAt, put_before}
-use Rattle.trackers.specs.TargetSets.{members, row_of_set}
+use Rattle.step_model.specs.TargetSets.{members, row_of_set}
 use Rattle.backward.proofs.OrderLemmas.{map_agree_on}
 use Rattle.backward.proofs.PassSets.{length-toggled_each, toggled_each_at}
-use Rattle.trackers.proofs.RangeLemmas.{listed_in_range}
-use Rattle.trackers.proofs.SetLemmas.{row_of_no_set, row_of_more, length-row_of_set, get_or-row_of_set}
+use Rattle.step_model.proofs.MemberLemmas.{listed_in_range}
+use Rattle.step_model.proofs.RowLemmas.{row_of_no_set, row_of_more, length-row_of_set, get_or-row_of_set}
 
 -- ---- how many links are gone over, and which stand behind, changes no list
 enough : (links : List Link) (n m k : ℕ) → LeadBack links → k ≤ length links → k ≤ n → k ≤ m → chain links n k ≡ chain links m k

@@ -10,11 +10,11 @@ use Rattle.step_model.specs.Listing.{Listing}
 use Rattle.step_model.specs.Targets.{is_listed, target_at, targets_of}
 use Rattle.backward.specs.private.ListedTargets.{AreParts, ArePut, HasRoom, left_from, listing_below, marked_rows, parts_at, start_of, times_in}
 use Rattle.backward.specs.private.RecordSets.{toggled_in}
-use Rattle.trackers.specs.TargetSets.{row_of_set, toggled}
+use Rattle.step_model.specs.TargetSets.{row_of_set, toggled}
 use Rattle.backward.proofs.ApartLemmas.{listed_pushed}
 use Rattle.backward.proofs.PassSets.{length-listing_below, listing_below-none}
-use Rattle.trackers.proofs.RangeLemmas.{map_agree}
-use Rattle.trackers.proofs.SetLemmas.{length-row_of_set, row_of_more, row_of_no_set}
+use Rattle.step_model.proofs.MemberLemmas.{map_agree}
+use Rattle.step_model.proofs.RowLemmas.{length-row_of_set, row_of_more, row_of_no_set}
 
 -- ---- where records start
 start_rises : (whole : List ℕ) (i j : ℕ) → i ≤ j → start_of whole i ≤ start_of whole j

@@ -21,7 +21,7 @@ use Rattle.backward.specs.private.Passes.{sensitivity_before, tracked_before, li
 use Rattle.backward.specs.private.Stretches.{line_for, hit_at, line_at, first_lines, lines_at, lines_between, text_between}
 use Rattle.trackers.specs.Tracked.{anticommuting}
 use Rattle.backward.proofs.PassWords.{words_count, words_at}
-use Rattle.trackers.proofs.RangeLemmas.{filter_range_agree}
+use Rattle.step_model.proofs.MemberLemmas.{filter_range_agree}
 
 abbrev target_count : Listing → ℕ
 target_count program = length (targets_of program)

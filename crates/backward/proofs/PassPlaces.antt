@@ -21,7 +21,7 @@ use Rattle.backward.specs.private.Passes.{sensitivity_before, tracked_before, la
 use Rattle.trackers.specs.Tracked.{Tracked, is_among, anticommuting}
 use Rattle.backward.proofs.PassLines.{anticommuting-before}
 use Rattle.step_model.proofs.RangeLemmas.{among_range}
-use Rattle.trackers.proofs.RangeLemmas.{All-range}
+use Rattle.step_model.proofs.MemberLemmas.{All-range}
 use Rattle.step_model.proofs.SensitivityLengths.{length-sensitivity}
 use Rattle.trackers.proofs.WordLemmas.{one_term}
 

@@ -13,7 +13,7 @@ use Rattle.step_model.specs.Targets.{targets_of}
 use Rattle.step_model.specs.WellFormed.{IsWellFormed, feeds_earlier, is_earlier, records_made}
 use Rattle.backward.specs.private.Collapses.{members_at, toggled_each}
 use Rattle.backward.specs.private.Passes.{HoldsLists, IsStepAt, listing_at, listing_set, listing_sets, records_before, sensitivity_before}
-use Rattle.trackers.specs.TargetSets.{members}
+use Rattle.step_model.specs.TargetSets.{members}
 use Rattle.backward.proofs.PassSets.{listing_set-fed, listing_set-other, length-toggled_each, length-listing_sets, listing_sets-row, listing_sets-long}
 
 and_left : (a b : Bool) → (a && b) ≡ true → a ≡ true

@@ -12,11 +12,11 @@ use Rattle.pauli_word.proofs.Parities.{exclusive_or-false, exclusive_or_assoc, e
 use Rattle.step_model.specs.Listing.{Listing, ListedStep, Feedback}
 use Rattle.step_model.specs.Targets.{targets_of, target_at, is_listed}
 use Rattle.backward.specs.private.Collapses.{toggled_each}
-use Rattle.trackers.specs.TargetSets.{toggled}
+use Rattle.step_model.specs.TargetSets.{toggled}
 use Rattle.backward.specs.private.ListedTargets.{listed_below, listing_below}
 use Rattle.backward.specs.private.Passes.{sensitivity_before, listing_set, listing_sets}
 use Rattle.backward.specs.private.RecordSets.{toggled_in, toggled_in_each}
-use Rattle.trackers.proofs.RangeLemmas.{listed_in_range, map_agree, map_range_below}
+use Rattle.step_model.proofs.MemberLemmas.{listed_in_range, map_agree, map_range_below}
 
 and_same : (a b : Bool) → b ≡ true → a ≡ (a && b)
 and_same false b h = refl

@@ -30,7 +30,7 @@ use Rattle.backward.proofs.PassLines.{anticommuting-before, hit_at-collapse, hit
 use Rattle.backward.proofs.PassPlaces.{latest_before-collapse, length-latest_before}
 use Rattle.backward.proofs.PassRecords.{holds-fed, holds-over, listed_there, record_there, records_before-back, settled-at}
 use Rattle.backward.proofs.PassWords.{recorded_number, words_count, tracked_before-one, tracked_before-two, tracked_before-collapse}
-use Rattle.trackers.proofs.RangeLemmas.{map_agree}
+use Rattle.step_model.proofs.MemberLemmas.{map_agree}
 use Rattle.trackers.proofs.WordLemmas.{word_of_one_term}
 
 -- ---- a step of a walk

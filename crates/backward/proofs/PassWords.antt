@@ -17,7 +17,7 @@ use Rattle.step_model.specs.WellFormed.{step_fits}
 use Rattle.backward.specs.private.Collapses.{times_terms, reset_at, undone_collapse}
 use Rattle.backward.specs.private.Passes.{IsMeasured, reset_word, sensitivity_before, tracked_before, listing_set, listing_at}
 use Rattle.trackers.specs.Tracked.{Tracked, fresh, each_word, with_I_at, undone_one, undone_two, is_among, added}
-use Rattle.trackers.proofs.RangeLemmas.{map_range_below, map-map, among_members}
+use Rattle.step_model.proofs.MemberLemmas.{map_range_below, map-map, among_members}
 use Rattle.step_model.proofs.SensitivityLengths.{length-sensitivity}
 
 abbrev with_words : ℕ → List (List Letter) → Tracked

@@ -4,8 +4,8 @@ use Rattle.std.specs.Prelude.{All, IfSome}
 use Rattle.std.specs.List.Sorted.{IsStrictlyIncreasing}
 use Rattle.programs.specs.Kept.{KeptProgram}
 use Rattle.programs.specs.Named.{IsRecord}
-use Rattle.trackers.specs.TargetSets.{members}
-use Rattle.trackers.proofs.RangeLemmas.{members_ascend, members_within}
+use Rattle.step_model.specs.TargetSets.{members}
+use Rattle.step_model.proofs.MemberLemmas.{members_ascend, members_within}
 use Rattle.backward.specs.private.Collapses.{members_at}
 
 pub members_at-ascend : (sets : List (List Bool)) (rec : Option ℕ) → IsStrictlyIncreasing (members_at sets rec)

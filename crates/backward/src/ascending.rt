@@ -1,7 +1,7 @@
 //! Lists of targets that stand for sets.
 ghost use Rattle.std.specs.Prelude.{◌≡◌, ◌<◌, ◌≤◌, ◌^◌, true, All, OnOk};
 ghost use Rattle.std.specs.List.Sorted.{IsStrictlyIncreasing};
-ghost use Rattle.trackers.specs.TargetSets.{members, row_of_set};
+ghost use Rattle.step_model.specs.TargetSets.{members, row_of_set};
 
 use std::alloc::{AllocError, Allocator};
 use trackers::{SparseSet, TargetSet, make_set};

@@ -3,7 +3,7 @@ ghost use Rattle.std.specs.Prelude.{◌≡◌, ◌<◌, ◌≤◌, ◌^◌, ◌+
 ghost use Rattle.backward.specs.private.Apart.{toggled_at, with_apart, AreToggled, IsApart, IsUnchanged};
 ghost use Rattle.backward.specs.private.Collapses.{toggled_each};
 ghost use Rattle.backward.specs.private.Passes.{listing_sets};
-ghost use Rattle.trackers.specs.TargetSets.{members};
+ghost use Rattle.step_model.specs.TargetSets.{members};
 
 use crate::ascending::{ascends, make_ascend};
 use crate::listed_targets::ListedTargets;

@@ -141,7 +141,7 @@ fn fault<'s, 'p, 'a, A: Allocator + Copy, T: Tracker, L: LineStore>(
 }
 
 /// Goes back over a fault, which the walk has gone back over already, and over the faults right before it, to a place at
-//// most. Most steps of a noisy circuit are faults in runs, so these have a loop of their own.
+/// most. Most steps of a noisy circuit are faults in runs, so these have a loop of their own.
 #[inline(never)]
 pub(crate) fn faults_back<'s, 'p, 'a, A: Allocator + Copy, T: Tracker, L: LineStore>(
     program: &Program<'a, A>,

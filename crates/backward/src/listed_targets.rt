@@ -3,7 +3,7 @@ ghost use Rattle.std.specs.Prelude.{◌≡◌, ◌<◌, ◌+◌, ◌^◌, ℕ, L
 ghost use Rattle.step_model.specs.Targets.{targets_of};
 ghost use Rattle.backward.specs.private.ListedTargets.{left_from, start_of, times_in, AreCounts, ArePut, AreStarts};
 ghost use Rattle.backward.specs.private.Passes.{listing_sets};
-ghost use Rattle.trackers.specs.TargetSets.{row_of_set};
+ghost use Rattle.step_model.specs.TargetSets.{row_of_set};
 
 use crate::targets::target_count;
 use programs::Program;

@@ -3,7 +3,7 @@ ghost use Rattle.std.specs.Prelude.{◌≡◌, ◌<◌, ◌≤◌, ◌+◌, ◌-
 ghost use Rattle.backward.specs.private.Collapses.{toggled_each};
 ghost use Rattle.backward.specs.private.Links.{list_at, rows_at, LeadBack, AreLists, IsGrown, IsPutAt};
 ghost use Rattle.backward.specs.private.RecordSets.{opened_sets};
-ghost use Rattle.trackers.specs.TargetSets.{members};
+ghost use Rattle.step_model.specs.TargetSets.{members};
 
 use crate::ascending::make_ascend;
 use std::alloc::{AllocError, Allocator};

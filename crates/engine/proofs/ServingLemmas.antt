@@ -7,8 +7,8 @@ use Rattle.step_model.specs.declared.step.Place.{Place}
 use Rattle.step_model.specs.Ends.{HandsOut, IsAtEnd, Takes}
 use Rattle.step_model.specs.Listing.{Listing}
 use Rattle.step_model.proofs.EndsLemmas.{HandsOut-all}
-use Rattle.engine.specs.declared.order.Order.{Order}
-use Rattle.engine.specs.declared.order.Order.TheVariants.{Analyze}
+use Rattle.step_model.specs.declared.order.Order.{Order}
+use Rattle.step_model.specs.declared.order.Order.TheVariants.{Analyze}
 use Rattle.engine.specs.declared.order.Status.{Status}
 use Rattle.engine.specs.declared.order.Status.TheVariants.{Done, Refused, Random}
 use Rattle.engine.specs.Headline.{HasRandomTarget, IsDecided, IsExactFor, IsRandomFor}

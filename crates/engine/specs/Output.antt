@@ -30,8 +30,8 @@ use Rattle.frames.specs.Sampled.{detection_line, record_line, shots_text}
 use Rattle.unroll.specs.Programs.{program_in}
 use Rattle.forward_sim.specs.Lists.{coins_of, numbers_of}
 use Rattle.engine.specs.Findings.{lowest_placed}
-use Rattle.engine.specs.declared.order.Order.{Order}
-use Rattle.engine.specs.declared.order.Order.TheVariants.{Run, Analyze, Faults, Predict, Sample, Detect}
+use Rattle.step_model.specs.declared.order.Order.{Order}
+use Rattle.step_model.specs.declared.order.Order.TheVariants.{Run, Analyze, Faults, Predict, Sample, Detect}
 use Rattle.engine.specs.declared.order.Status.{Status}
 use Rattle.engine.specs.declared.order.Status.TheVariants.{Done, Refused, Random}
 

@@ -12,5 +12,6 @@ mod refusing;
 mod running;
 mod serving;
 
-pub use order::{Order, Status, exit_status};
+pub use order::{Status, exit_status};
 pub use serving::serve;
+pub use step_model::Order;

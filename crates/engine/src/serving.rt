@@ -2,7 +2,7 @@
 ghost use Rattle.std.specs.Prelude.{◌≡◌, ◌⊎◌, ℕ, List, [], Some, IfOk, IfErr, IfSome, OnOk, OnErr, OnSome};
 ghost use Rattle.step_model.specs.Ends.{HandsOutSome, IsAtEnd, Takes, TakesSome, read_failures, write_failures};
 ghost use Rattle.step_model.specs.Faults.{memory_fault, read_fault, write_fault};
-ghost use Rattle.engine.specs.declared.order.Order.TheVariants.{Analyze};
+ghost use Rattle.step_model.specs.declared.order.Order.TheVariants.{Analyze};
 ghost use Rattle.engine.specs.declared.order.Status.TheVariants.{Done, Random};
 ghost use Rattle.engine.specs.Headline.{IsDecided, IsExactFor, IsRandomFor};
 ghost use Rattle.engine.specs.Output.{output_of};
@@ -11,12 +11,12 @@ ghost use Rattle.engine.specs.private.Answered.{AnswersOrder};
 use crate::analysis::answer_analysis;
 use crate::drawing::answer_shots;
 use crate::listing::answer_faults;
-use crate::order::{Order, Status};
+use crate::order::Status;
 use crate::predicting::answer_prediction;
 use crate::running::answer_run;
 use frames::Shown;
 use std::alloc::Allocator;
-use step_model::{Fault, Sink, Source, read_all};
+use step_model::{Fault, Order, Sink, Source, read_all};
 
 /// Reads a text to the end of its source, and writes to the sink what the order asks of it, or the one line that
 /// says why it is refused. A source or a sink that failed isn't called again.

@@ -109,10 +109,15 @@ fn unfolded(number: u64) -> i64
     if number % 2 == 0 { half } else { -1 - half }
 }
 
-// A number with the 7 bits of a group behind it. It stays at the greatest of 64 bits where it would pass that.
+// A number with the 7 bits of a group behind it. It stays at the greatest of 64 bits where it would pass that. Most numbers
+// have one group.
+#[inline(always)]
 fn with_group(number: u64, byte: u8) -> u64
     ensures { result ≡ with_group number byte }
 {
+    if number == 0 {
+        return (byte % 128) as u64;
+    }
     number
         .saturating_mul(128)
         .saturating_add((byte % 128) as u64)

@@ -1,7 +1,9 @@
 pub mod ChanceLaws
 pub mod EndsLemmas
 pub mod MemoryLemmas
+pub mod MemberLemmas
 pub mod RangeLemmas
+pub mod RowLemmas
 pub mod SensitivityLengths
 pub mod StateIsGroup
 pub mod StepNumbers

@@ -9,6 +9,7 @@ pub mod Listing
 pub mod Probabilities
 pub mod Runs
 pub mod Sensitivities
+pub mod TargetSets
 pub mod Targets
 pub mod WellFormed
 pub mod Written

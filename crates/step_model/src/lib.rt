@@ -8,10 +8,12 @@ mod ends;
 mod fault;
 pub mod laws;
 mod memory;
+mod order;
 mod step;
 
 pub use chances::{ChanceText, number_of};
 pub use ends::{Sink, Source, read_all, write_all};
 pub use fault::{Cause, Fault};
 pub use memory::{MemorySink, MemorySource};
+pub use order::Order;
 pub use step::{Place, Term};

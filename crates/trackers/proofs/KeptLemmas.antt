@@ -13,10 +13,10 @@ use Rattle.pauli_word.proofs.BitWords.{letter_at-letters_of}
 use Rattle.pauli_word.proofs.LetterTests.{letter_of-bits}
 use Rattle.step_model.specs.Targets.{is_listed}
 use Rattle.trackers.specs.Tracked.{Tracked, Fit, listed_word, restored}
-use Rattle.trackers.specs.TargetSets.{members, row_of_set}
+use Rattle.step_model.specs.TargetSets.{members, row_of_set}
 use Rattle.trackers.specs.private.Transposed.{AreRestored, column_of, lists_of, lists_of_each, tracked_of, transposed, word_at}
-use Rattle.trackers.proofs.RangeLemmas.{listed_in_range, map_range_below, members_within}
-use Rattle.trackers.proofs.SetLemmas.{get_or-row_of_set, length-row_of_set}
+use Rattle.step_model.proofs.MemberLemmas.{listed_in_range, map_range_below, members_within}
+use Rattle.step_model.proofs.RowLemmas.{get_or-row_of_set, length-row_of_set}
 use Rattle.trackers.proofs.TransposedLemmas.{tracked_words}
 
 -- ---- the bits of letters

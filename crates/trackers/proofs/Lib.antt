@@ -6,7 +6,6 @@ pub mod LengthLemmas
 pub mod LoneTerms
 pub mod MultiplyLemmas
 mod PairLemmas
-pub mod RangeLemmas
 pub mod SetLemmas
 mod TimesAll
 mod TimesEach

@@ -15,7 +15,7 @@ use Rattle.pauli_word.specs.Words.{anticommute, letter_at}
 use Rattle.pauli_word.proofs.Parities.{exclusive_or-false}
 use Rattle.step_model.specs.declared.step.Term.{Term}
 use Rattle.step_model.specs.Listing.{word_of_terms}
-use Rattle.trackers.specs.TargetSets.{members}
+use Rattle.step_model.specs.TargetSets.{members}
 use Rattle.trackers.specs.Tracked.{anticommuting}
 use Rattle.trackers.specs.private.Transposed.{tracked_of, word_at}
 use Rattle.trackers.proofs.TransposedLemmas.{clash_more, clash_none, clash_rows, get_or-xor_rows, length-xor_rows, ones_are_hit}

@@ -4,13 +4,14 @@ use Rattle.std.specs.Prelude.{◌⊎◌, filter, reverse, replicate, insert, rem
 use Rattle.std.specs.List.{range_with_len}
 use Rattle.std.proofs.Math.Nat.{suc_inj}
 use Rattle.std.proofs.lemmas.Bool.{eqb-true, ltb-true, ltb-false, lt-ltb, le-ltb, cases_eq, eq-eqb, ne_eqb}
-use Rattle.trackers.proofs.RangeLemmas.{filter_range_agree, filter_range_taken, filter_range_left, set-map-range}
+use Rattle.step_model.proofs.MemberLemmas.{filter_range_agree, filter_range_taken, filter_range_left, set-map-range}
 use Rattle.std.proofs.lemmas.List.{drop_all, drop_more, reverse-append}
 use Rattle.pauli_word.specs.Parity.{exclusive_or}
 use Rattle.pauli_word.proofs.Parities.{exclusive_or-false, exclusive_or_assoc, exclusive_or_left_comm}
 use Rattle.step_model.specs.Targets.{is_listed}
 use Rattle.trackers.specs.private.Sets.{DescendsBelow, xor_step, xor_sets}
-use Rattle.trackers.specs.TargetSets.{members, row_of_set}
+use Rattle.step_model.specs.TargetSets.{members, row_of_set}
+use Rattle.step_model.proofs.RowLemmas.{get_or-row_of_set, length-row_of_set, none_added}
 use Rattle.bit_rows.specs.Rows.{xor_rows}
 use Rattle.std.proofs.lemmas.List.FromFn.{length-map-range_with_len, get_or-map-range_with_len}
 
@@ -223,19 +224,6 @@ came_last m xs seen t is low descends =
     subst (λ (s : List ℕ). t < get_or s k 0) is (subst (λ j. t < get_or seen j 0) last here))
 
 -- ---- rows
-pub length-row_of_set : (m : ℕ) (xs : List ℕ) → length (row_of_set m xs) ≡ m
-length-row_of_set m xs = length-map-range_with_len (is_listed xs) 0 m
-
-pub get_or-row_of_set : (m : ℕ) (xs : List ℕ) (t : ℕ) → t < m → get_or (row_of_set m xs) t false ≡ is_listed xs t
-get_or-row_of_set m xs t h = get_or-map-range_with_len (is_listed xs) 0 m t t false h (omega arith)
-
-pub row_of_no_set : (m : ℕ) → row_of_set m [] ≡ replicate m false
-row_of_no_set m = none 0 m
-  where
-    none : (k m : ℕ) → map (is_listed []) (range_with_len k m) ≡ replicate m false
-    none k zero = refl
-    none k (suc m) = ap (λ l. false ∷ l) (none (k + 1) m)
-
 pub row_of_xor_sets : (m : ℕ) (xs ys : List ℕ) → row_of_set m (xor_sets xs ys) ≡ xor_rows (row_of_set m xs) (row_of_set m ys)
 row_of_xor_sets m xs ys = each 0 m
   where
@@ -249,12 +237,6 @@ row_of_toggled m t xs h =
     (ap not (get_or-row_of_set m xs t h) ∙ sym (is_listed-xor_sets (t ∷ []) xs t ∙ ap (λ b. exclusive_or (exclusive_or b false) (is_listed xs t)) (eq-eqb t t refl)))
     (λ r other. sym (is_listed-xor_sets (t ∷ []) xs r ∙ ap (λ b. exclusive_or (exclusive_or b false) (is_listed xs r)) (ne_eqb t r (λ e. other (sym e))))))
 
-pub row_of_more : (m t : ℕ) (xs : List ℕ) → t < m → row_of_set m (t ∷ xs) ≡ set (row_of_set m xs) t (not (get_or (row_of_set m xs) t false))
-row_of_more m t xs h =
-    sym (set-map-range (is_listed xs) (is_listed (t ∷ xs)) m t (not (get_or (row_of_set m xs) t false)) h
-    (ap not (get_or-row_of_set m xs t h) ∙ sym (ap (λ b. exclusive_or b (is_listed xs t)) (eq-eqb t t refl)))
-    (λ r other. sym (ap (λ b. exclusive_or b (is_listed xs r)) (ne_eqb t r (λ e. other (sym e))))))
-
 -- a descending list, reversed, is the members of its row
 pub reverse_is_members : (m : ℕ) (xs : List ℕ) → DescendsBelow m xs → reverse xs ≡ members (row_of_set m xs)
 reverse_is_members m xs h =
@@ -267,30 +249,11 @@ pub same_count : (m n : ℕ) (xs ys : List ℕ) (p q : List Bool) → row_of_set
 same_count m n xs ys p q a b h =
     sym (length-row_of_set m xs) ∙ (ap length a ∙ (h ∙ (sym (ap length b) ∙ length-row_of_set n ys)))
 
--- a set of none changes no row
-pub none_added : (row : List Bool) (k n : ℕ) → length row ≡ n → xor_rows row (map (is_listed []) (range_with_len k n)) ≡ row
-none_added [] k n h = refl
-none_added (b ∷ row) k zero h = cc
-none_added (b ∷ row) k (suc n) h = ap₂ (λ c r. c ∷ r) (exclusive_or-false b) (none_added row (k + 1) n (suc_inj h))
-
 pub none_before : (m : ℕ) (row : List Bool) → length row ≡ m → xor_rows (replicate m false) row ≡ row
 none_before zero [] h = refl
 none_before zero (b ∷ row) h = cc
 none_before (suc m) [] h = cc
 none_before (suc m) (b ∷ row) h = ap (λ r. b ∷ r) (none_before m row (suc_inj h))
-
--- a target toggled in a sum is toggled in what is added
-not_of_sum : (a b : Bool) → not (exclusive_or a b) ≡ exclusive_or a (not b)
-not_of_sum true true = refl
-not_of_sum true false = refl
-not_of_sum false b = refl
-
-pub toggled_sum : (p q : List Bool) (t : ℕ) → length p ≡ length q → set (xor_rows p q) t (not (get_or (xor_rows p q) t false)) ≡ xor_rows p (set q t (not (get_or q t false)))
-toggled_sum [] [] t h = refl
-toggled_sum [] (b ∷ q) t h = cc
-toggled_sum (a ∷ p) [] t h = cc
-toggled_sum (a ∷ p) (b ∷ q) zero h = ap (λ c. c ∷ xor_rows p q) (not_of_sum a b)
-toggled_sum (a ∷ p) (b ∷ q) (suc t) h = ap (λ r. exclusive_or a b ∷ r) (toggled_sum p q t (suc_inj h))
 
 -- a list of one element
 pub only_one : {A : Type 0} (xs : List A) (d : A) → length xs ≡ 1 → xs ≡ get_or xs 0 d ∷ []

@@ -6,10 +6,10 @@ use Rattle.pauli_word.specs.declared.letter.Letter.{Letter}
 use Rattle.pauli_word.specs.Bits.{x_bit, z_bit, letters_of}
 use Rattle.pauli_word.specs.Parity.{exclusive_or}
 use Rattle.pauli_word.proofs.Parities.{exclusive_or-false}
-use Rattle.trackers.specs.TargetSets.{row_of_set, toggled}
+use Rattle.step_model.specs.TargetSets.{row_of_set, toggled}
 use Rattle.trackers.specs.private.Transposed.{xor_where, flipped_where, times_at, times_each}
 use Rattle.trackers.proofs.ColumnLemmas.{flipped_rows}
-use Rattle.trackers.proofs.SetLemmas.{length-row_of_set, row_of_more, row_of_no_set}
+use Rattle.step_model.proofs.RowLemmas.{length-row_of_set, row_of_more, row_of_no_set}
 use Rattle.trackers.proofs.TimesEach.{one_before}
 
 length-xor_where : (b : Bool) (p q : List Bool) → length (xor_where b p q) ≡ length p

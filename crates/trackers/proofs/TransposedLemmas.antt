@@ -31,7 +31,7 @@ use Rattle.step_model.specs.Sensitivities.{multiplied}
 use Rattle.pauli_word.proofs.LoneLetters.{letters_product-lone_letter, letters_product_of_no_letters}
 use Rattle.trackers.specs.Tracked.{Tracked, fresh, each_word, with_I_at, undone_one, undone_two, is_among, added, anticommuting}
 use Rattle.trackers.specs.private.Transposed.{word_at, transposed, tracked_of, combined, times_each}
-use Rattle.trackers.proofs.RangeLemmas.{filter_range_agree, map-map, map_range_below}
+use Rattle.step_model.proofs.MemberLemmas.{filter_range_agree, map-map, map_range_below}
 
 abbrev pub tracked_words : ℕ → List (List Letter) → Tracked
 tracked_words n words = record { qubits = n; words = words }

@@ -1,3 +1,2 @@
-pub mod TargetSets
 pub mod Tracked
 pub mod private

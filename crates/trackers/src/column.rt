@@ -4,7 +4,7 @@ ghost use Rattle.pauli_word.specs.Bits.{x_bit, z_bit, letters_of};
 ghost use Rattle.pauli_word.specs.declared.letter.Letter.TheVariants.{I, X, Y, Z};
 ghost use Rattle.pauli_word.specs.Letters.{letters_clash};
 ghost use Rattle.pauli_word.specs.Words.{letters_product, no_letters};
-ghost use Rattle.trackers.specs.TargetSets.{members};
+ghost use Rattle.step_model.specs.TargetSets.{members};
 ghost use Rattle.trackers.specs.private.Transposed.{combined, xor_where, times_each, column_of, lists_of};
 
 use crate::descending::FEW;

@@ -21,7 +21,7 @@ pub struct SparseSet<'a, A: Allocator + Copy> {
 impl<'a, A: Allocator + Copy> Model for SparseSet<'a, A> {
     ghost use Rattle.std.specs.Prelude.{List, Bool};
     ghost use Rattle.trackers.specs.private.Sets.{DescendsBelow};
-    ghost use Rattle.trackers.specs.TargetSets.{row_of_set};
+    ghost use Rattle.step_model.specs.TargetSets.{row_of_set};
 
     ghost Value = { List Bool };
 

@@ -2,7 +2,7 @@
 ghost use Rattle.std.specs.Prelude.{◌≡◌, ◌<◌, ◌≤◌, ◌^◌, false, true, not, length, filter, replicate, reverse, take, All, IfOk, IfSome, OnOk, List, Bool, slice_index_or, slice_set};
 ghost use Rattle.std.specs.List.{range_with_len};
 ghost use Rattle.bit_rows.specs.Rows.{xor_rows};
-ghost use Rattle.trackers.specs.TargetSets.{members, row_of_set};
+ghost use Rattle.step_model.specs.TargetSets.{members, row_of_set};
 ghost use Rattle.trackers.specs.private.Transposed.{xor_where, AreAsLong};
 
 use crate::descending::FEW;

@@ -5,7 +5,7 @@ use Rattle.step_model.specs.Targets.{is_listed}
 use Rattle.std.specs.Prelude.{◌≡◌, ◌<◌, ℕ, Bool, false, List, [], ◌∷◌, Option, None, Some, All, IfSome, length, replicate, slice_index_or, slice_set}
 use Rattle.backward.specs.private.Collapses.{toggled_each}
 use Rattle.bit_rows.specs.Rows.{xor_rows}
-use Rattle.trackers.specs.TargetSets.{row_of_set}
+use Rattle.step_model.specs.TargetSets.{row_of_set}
 
 -- the rows, with that of the record whose set is apart
 abbrev pub with_apart : ℕ → List (List Bool) → Option ℕ → List ℕ → List (List Bool)

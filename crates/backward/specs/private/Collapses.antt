@@ -4,7 +4,7 @@
 -- project's own.)
 use Rattle.std.specs.Prelude.{ℕ, Bool, true, false, List, [], ◌∷◌, Option, None, Some, slice_index_or, slice_set}
 use Rattle.step_model.specs.declared.step.Term.{Term}
-use Rattle.trackers.specs.TargetSets.{members, toggled}
+use Rattle.step_model.specs.TargetSets.{members, toggled}
 use Rattle.trackers.specs.Tracked.{Tracked, each_word, with_I_at, added}
 
 -- the words of some targets, multiplied by each letter at a qubit

@@ -2,7 +2,7 @@
 -- many links, and at place 0 the list is empty. (This project's own.)
 use Rattle.std.specs.Prelude.{◌≡◌, ◌<◌, ◌≤◌, ℕ, zero, suc, Bool, List, [], ◌∷◌, length, map, slice_index_or, All}
 use Rattle.backward.specs.declared.record_lists.Link.{Link}
-use Rattle.trackers.specs.TargetSets.{row_of_set}
+use Rattle.step_model.specs.TargetSets.{row_of_set}
 
 abbrev pub no_link : Link
 no_link = record { target = 0; next = 0 }

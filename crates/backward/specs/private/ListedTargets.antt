@@ -5,7 +5,7 @@ use Rattle.std.specs.Prelude.{◌≡◌, ◌<◌, ◌≤◌, ◌+◌, ◌^◌, �
 use Rattle.std.specs.List.{concat, range_with_len}
 use Rattle.step_model.specs.Listing.{Listing}
 use Rattle.step_model.specs.Targets.{is_listed, target_at, targets_of}
-use Rattle.trackers.specs.TargetSets.{row_of_set}
+use Rattle.step_model.specs.TargetSets.{row_of_set}
 
 -- the rows of bits for which the parts of a list of numbers stand that have these ends
 abbrev pub parts_at : ℕ → List ℕ → List ℕ → List (List Bool)

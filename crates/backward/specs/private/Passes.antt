@@ -16,7 +16,7 @@ use Rattle.programs.specs.Named.{IsNamedFlip, IsRecord}
 use Rattle.programs.specs.declared.step.FaultName.{FaultName}
 use Rattle.backward.specs.declared.found.Found.{Found}
 use Rattle.trackers.specs.Tracked.{Tracked, with_I_at}
-use Rattle.trackers.specs.TargetSets.{members}
+use Rattle.step_model.specs.TargetSets.{members}
 
 -- the sensitivity of a target before these steps, which are the last
 abbrev pub sensitivity_before : Listing → List ListedStep → ℕ → Sensitivity

@@ -2,7 +2,7 @@
 -- lists, and so is in the sets of those that it lists an odd number of times. (Sensitivities taken back over a circuit:
 -- Gidney, Quantum 5, 497 (2021). How they are kept here is this project's own.)
 use Rattle.std.specs.Prelude.{ℕ, Bool, false, List, [], ◌∷◌, replicate, slice_index_or, slice_set}
-use Rattle.trackers.specs.TargetSets.{toggled}
+use Rattle.step_model.specs.TargetSets.{toggled}
 
 abbrev pub toggled_in : ℕ → ℕ → List (List Bool) → List (List Bool)
 toggled_in t r sets = slice_set sets r (toggled t (slice_index_or sets r []))

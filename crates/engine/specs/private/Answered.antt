@@ -4,8 +4,8 @@ use Rattle.std.specs.Prelude.{◌≡◌, ◌⊎◌, ℕ, List, Option, Result, I
 use Rattle.step_model.specs.declared.fault.Fault.{Fault}
 use Rattle.step_model.specs.Ends.{Takes, TakesSome, write_failures}
 use Rattle.step_model.specs.Faults.{memory_fault, write_fault}
-use Rattle.engine.specs.declared.order.Order.{Order}
-use Rattle.engine.specs.declared.order.Order.TheVariants.{Analyze}
+use Rattle.step_model.specs.declared.order.Order.{Order}
+use Rattle.step_model.specs.declared.order.Order.TheVariants.{Analyze}
 use Rattle.engine.specs.declared.order.Status.{Status}
 use Rattle.engine.specs.declared.order.Status.TheVariants.{Done, Random}
 use Rattle.engine.specs.Headline.{IsExactFor, IsRandomFor}

@@ -12,7 +12,7 @@ use Rattle.pauli_word.specs.Letters.{letter_product}
 use Rattle.pauli_word.specs.Parity.{exclusive_or}
 use Rattle.pauli_word.specs.Words.{letter_at, letters_product}
 use Rattle.trackers.specs.Tracked.{Tracked}
-use Rattle.trackers.specs.TargetSets.{members, row_of_set}
+use Rattle.step_model.specs.TargetSets.{members, row_of_set}
 
 -- the word of target t
 abbrev pub word_at : List (List Letter) → ℕ → List Letter

@@ -4,9 +4,9 @@ use Rattle.std.specs.List.Sorted.{IsPermutation}
 use Rattle.std.proofs.lemmas.List.{length-replicate}
 use Rattle.std.proofs.lemmas.List.Sorted.{All-permutation}
 use Rattle.std.proofs.lemmas.Result.{on_ok_weaker}
-use Rattle.trackers.specs.TargetSets.{members, row_of_set}
+use Rattle.step_model.specs.TargetSets.{members, row_of_set}
 use Rattle.backward.proofs.OrderLemmas.{row_of_permutation}
-use Rattle.trackers.proofs.SetLemmas.{length-row_of_set}
+use Rattle.step_model.proofs.RowLemmas.{length-row_of_set}
 use Rattle.backward.proofs.ascending.make_in_order.Goals as goal
 
 -- the set of a list in another order

@@ -2,9 +2,9 @@ use Rattle.std.proofs.Common.{◌≡◌, ◌<◌, [], length, get_or, set, ap, s
 use Rattle.std.specs.Prelude.{All}
 use Rattle.std.proofs.lemmas.List.{set-get_or}
 use Rattle.backward.specs.private.Apart.{with_apart}
-use Rattle.trackers.specs.TargetSets.{members, row_of_set}
+use Rattle.step_model.specs.TargetSets.{members, row_of_set}
 use Rattle.backward.proofs.ApartLemmas.{length-with_apart, row_of_members}
-use Rattle.trackers.proofs.RangeLemmas.{members_within}
+use Rattle.step_model.proofs.MemberLemmas.{members_within}
 use Rattle.backward.proofs.changing_lists.take_out.Goals as goal
 
 pub returns-clause-rows : goal.returns-clause-rows

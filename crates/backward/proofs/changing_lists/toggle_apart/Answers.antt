@@ -1,7 +1,7 @@
 use Rattle.std.proofs.Common.{◌<◌, ◌∙◌, [], length, set, ap, subst, sym, arith}
 use Rattle.std.specs.Prelude.{All, IfSome}
 use Rattle.backward.specs.private.Apart.{with_apart}
-use Rattle.trackers.specs.TargetSets.{row_of_set}
+use Rattle.step_model.specs.TargetSets.{row_of_set}
 use Rattle.backward.proofs.ApartLemmas.{toggled_apart, within_as_long}
 use Rattle.backward.proofs.changing_lists.toggle_apart.Goals as goal
 

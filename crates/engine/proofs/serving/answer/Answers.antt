@@ -1,7 +1,7 @@
 -- Each order is answered by its own call, which says what the order promises.
 use Rattle.std.proofs.Common.{sym, subst}
 use Rattle.std.proofs.lemmas.Result.{IfOk-weaker}
-use Rattle.engine.specs.declared.order.Order.{Order}
+use Rattle.step_model.specs.declared.order.Order.{Order}
 use Rattle.engine.specs.Output.{output_of}
 use Rattle.engine.specs.private.Answered.{Answers}
 use Rattle.engine.proofs.ServingLemmas.{only_answered}

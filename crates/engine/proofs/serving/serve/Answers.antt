@@ -2,7 +2,7 @@ use Rattle.std.proofs.Common.{◌≡◌, ℕ, List, subst}
 use Rattle.std.specs.Prelude.{IfSome}
 use Rattle.std.proofs.lemmas.Result.{IfOk-weaker}
 use Rattle.step_model.specs.Ends.{Takes}
-use Rattle.engine.specs.declared.order.Order.TheVariants.{Analyze}
+use Rattle.step_model.specs.declared.order.Order.TheVariants.{Analyze}
 use Rattle.engine.specs.declared.order.Status.TheVariants.{Done, Random}
 use Rattle.engine.specs.Headline.{IsDecided, IsExactFor, IsRandomFor}
 use Rattle.engine.proofs.ServingLemmas.{decided, of_told, promised}

@@ -3,8 +3,9 @@ use Rattle.std.specs.Prelude.{All}
 use Rattle.std.proofs.lemmas.List.{length-replicate}
 use Rattle.std.proofs.lemmas.Result.{on_ok_weaker}
 use Rattle.bit_rows.specs.Rows.{xor_rows}
-use Rattle.trackers.specs.TargetSets.{row_of_set}
-use Rattle.trackers.proofs.SetLemmas.{length-row_of_set, none_before}
+use Rattle.step_model.specs.TargetSets.{row_of_set}
+use Rattle.trackers.proofs.SetLemmas.{none_before}
+use Rattle.step_model.proofs.RowLemmas.{length-row_of_set}
 use Rattle.trackers.proofs.target_set.make_set.Goals as goal
 
 pub toggle_down-requires : goal.toggle_down-requires

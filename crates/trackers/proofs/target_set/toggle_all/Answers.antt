@@ -1,7 +1,7 @@
 use Rattle.std.proofs.Common.{ap, ◌∙◌}
 use Rattle.std.proofs.lemmas.Result.{on_ok_weaker}
 use Rattle.bit_rows.specs.Rows.{xor_rows}
-use Rattle.trackers.specs.TargetSets.{row_of_set}
+use Rattle.step_model.specs.TargetSets.{row_of_set}
 use Rattle.trackers.proofs.target_set.toggle_all.Goals as goal
 
 pub returns-clause-ok : goal.returns-clause-ok

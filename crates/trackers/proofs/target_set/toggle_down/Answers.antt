@@ -1,8 +1,8 @@
 use Rattle.std.proofs.Common.{◌≡◌, ◌<◌, ◌+◌, ◌-◌, ◌∷◌, length, drop, get_or, refl, ap, sym, ◌∙◌, arith}
 use Rattle.std.proofs.lemmas.List.{drop_all, drop_more}
 use Rattle.bit_rows.specs.Rows.{xor_rows}
-use Rattle.trackers.specs.TargetSets.{row_of_set, toggled}
-use Rattle.trackers.proofs.SetLemmas.{length-row_of_set, none_added, row_of_more, toggled_sum}
+use Rattle.step_model.specs.TargetSets.{row_of_set, toggled}
+use Rattle.step_model.proofs.RowLemmas.{length-row_of_set, none_added, row_of_more, toggled_sum}
 use Rattle.trackers.proofs.target_set.toggle_down.Goals as goal
 
 pub loop-left-init : goal.loop-left-init

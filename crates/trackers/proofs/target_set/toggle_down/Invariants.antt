@@ -1,6 +1,6 @@
 use Rattle.std.proofs.Common.{◌≡◌, ◌≤◌, length, drop}
 use Rattle.bit_rows.specs.Rows.{xor_rows}
-use Rattle.trackers.specs.TargetSets.{row_of_set}
+use Rattle.step_model.specs.TargetSets.{row_of_set}
 use Rattle.trackers.proofs.target_set.toggle_down.Given as goal
 
 -- the targets from this one on are toggled

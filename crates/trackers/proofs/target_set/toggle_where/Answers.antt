@@ -1,8 +1,8 @@
 use Rattle.std.proofs.Common.{length, sym, ◌∙◌}
 use Rattle.std.proofs.lemmas.Result.{on_ok_weaker}
-use Rattle.trackers.specs.TargetSets.{row_of_set}
+use Rattle.step_model.specs.TargetSets.{row_of_set}
 use Rattle.trackers.proofs.ColumnLemmas.{xor_where-false, xor_where-true}
-use Rattle.trackers.proofs.SetLemmas.{length-row_of_set}
+use Rattle.step_model.proofs.RowLemmas.{length-row_of_set}
 use Rattle.trackers.proofs.target_set.toggle_where.Goals as goal
 
 pub returns-then-toggle-clause-ok : goal.returns-then-toggle-clause-ok

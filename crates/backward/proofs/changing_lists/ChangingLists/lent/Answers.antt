@@ -1,5 +1,5 @@
 use Rattle.std.proofs.Common.{◌<◌, [], length, get_or, ap, ◌∙◌}
-use Rattle.trackers.specs.TargetSets.{members}
+use Rattle.step_model.specs.TargetSets.{members}
 use Rattle.backward.proofs.ChangeLemmas.{as_long, row_unchanged}
 use Rattle.backward.proofs.OrderLemmas.{ascending_is_members}
 use Rattle.backward.proofs.changing_lists.ChangingLists.lent.Given.{Over}

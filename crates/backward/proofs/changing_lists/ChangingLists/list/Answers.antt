@@ -3,9 +3,9 @@ use Rattle.std.specs.Prelude.{All}
 use Rattle.std.proofs.lemmas.Bool.{eqb-true}
 use Rattle.std.proofs.lemmas.Result.{on_ok_weaker}
 use Rattle.backward.specs.private.Apart.{with_apart, with_changes}
-use Rattle.trackers.specs.TargetSets.{members}
+use Rattle.step_model.specs.TargetSets.{members}
 use Rattle.backward.proofs.ChangeLemmas.{as_long, row_changed, row_of_changes}
-use Rattle.trackers.proofs.RangeLemmas.{members_within}
+use Rattle.step_model.proofs.MemberLemmas.{members_within}
 use Rattle.backward.proofs.changing_lists.ChangingLists.list.Given.{Over}
 use Rattle.backward.proofs.changing_lists.ChangingLists.list.Goals as goal
 use Rattle.backward.proofs.changing_lists.ChangingLists.list.Goals.{After-put_back, After-self}

@@ -3,7 +3,7 @@ use Rattle.std.specs.Prelude.{All, replicate}
 use Rattle.std.proofs.lemmas.Bool.{cases_eq}
 use Rattle.std.proofs.lemmas.List.{ext_get_or, get_or-replicate, get_or-set_other, get_or-set_same, length-replicate}
 use Rattle.backward.proofs.LinkLemmas.{put_members, rows_counted, rows_of_length}
-use Rattle.trackers.proofs.RangeLemmas.{members_within}
+use Rattle.step_model.proofs.MemberLemmas.{members_within}
 use Rattle.backward.proofs.record_lists.RecordLists.anew.Goals as goal
 
 pub loop-rec-init : goal.loop-rec-init

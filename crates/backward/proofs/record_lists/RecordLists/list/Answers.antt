@@ -3,7 +3,7 @@ use Rattle.std.specs.Prelude.{All, reverse}
 use Rattle.std.proofs.lemmas.List.Sorted.{All-permutation, IsPermutation-reverse}
 use Rattle.std.proofs.lemmas.Result.{on_ok_weaker}
 use Rattle.backward.specs.private.Links.{list_at}
-use Rattle.trackers.specs.TargetSets.{members, row_of_set}
+use Rattle.step_model.specs.TargetSets.{members, row_of_set}
 use Rattle.backward.proofs.LinkLemmas.{below_at, row_at, rows_of_length}
 use Rattle.backward.proofs.OrderLemmas.{row_of_permutation}
 use Rattle.backward.proofs.record_lists.RecordLists.list.Goals as goal

@@ -2,7 +2,7 @@ use Rattle.std.proofs.Common.{refl, [], List, Bool, length, get_or, set, ap, sym
 use Rattle.std.proofs.lemmas.List.{length-map, length-set}
 use Rattle.backward.specs.private.Collapses.{toggled_each}
 use Rattle.backward.specs.private.Links.{list_at}
-use Rattle.trackers.specs.TargetSets.{row_of_set}
+use Rattle.step_model.specs.TargetSets.{row_of_set}
 use Rattle.backward.proofs.LinkLemmas.{lists_grown, lists_put, low_at, rows_put, rows_stay_long}
 use Rattle.backward.proofs.record_lists.RecordLists.put.Goals as goal
 

@@ -1,6 +1,6 @@
 use Rattle.std.proofs.Common.{◌∷◌, ◌++◌, [], List, ℕ, ap, ap₂, sym, ◌∙◌, arith, append_assoc}
 use Rattle.std.proofs.lemmas.Result.{on_ok_weaker}
-use Rattle.trackers.specs.TargetSets.{members}
+use Rattle.step_model.specs.TargetSets.{members}
 use Rattle.trackers.proofs.ColumnLemmas.{rows_long}
 use Rattle.trackers.proofs.KeptLemmas.{bits_of_column}
 use Rattle.trackers.proofs.column.Column.keep.Goals as goal

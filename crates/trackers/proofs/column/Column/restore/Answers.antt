@@ -3,7 +3,7 @@ use Rattle.std.specs.Prelude.{All}
 use Rattle.std.proofs.lemmas.Result.{on_ok_weaker}
 use Rattle.pauli_word.specs.Bits.{letters_of}
 use Rattle.pauli_word.proofs.BitWords.{length-letters_of}
-use Rattle.trackers.specs.TargetSets.{row_of_set}
+use Rattle.step_model.specs.TargetSets.{row_of_set}
 use Rattle.trackers.proofs.ColumnLemmas.{rows_long}
 use Rattle.trackers.proofs.column.Column.restore.Goals as goal
 

@@ -3,7 +3,7 @@ use Rattle.std.proofs.lemmas.Option.{IfSome_then}
 use Rattle.bit_rows.specs.Rows.{xor_rows}
 use Rattle.pauli_word.specs.declared.letter.Letter.TheVariants.{Y}
 use Rattle.pauli_word.specs.Letters.{letters_clash}
-use Rattle.trackers.specs.TargetSets.{members}
+use Rattle.step_model.specs.TargetSets.{members}
 use Rattle.trackers.proofs.ColumnLemmas.{rows_long}
 use Rattle.trackers.proofs.LoneTerms.{clashes_of_Y}
 use Rattle.trackers.proofs.column.Column.sum_clashing_y.Goals as goal

@@ -2,7 +2,7 @@ use Rattle.std.proofs.Common.{◌<◌, length, refl, ap, ap₂, subst, sym, ◌�
 use Rattle.std.specs.Prelude.{All}
 use Rattle.std.proofs.lemmas.Result.{on_ok_weaker}
 use Rattle.pauli_word.specs.Bits.{letters_of}
-use Rattle.trackers.specs.TargetSets.{row_of_set}
+use Rattle.step_model.specs.TargetSets.{row_of_set}
 use Rattle.trackers.specs.private.Transposed.{xor_where, times_each}
 use Rattle.trackers.proofs.ColumnLemmas.{rows_long, stays_long}
 use Rattle.trackers.proofs.TimesAll.{times_by_set}

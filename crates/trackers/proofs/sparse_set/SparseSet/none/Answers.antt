@@ -1,6 +1,6 @@
 use Rattle.std.proofs.Common.{ap, ◌∙◌}
-use Rattle.trackers.specs.TargetSets.{row_of_set}
-use Rattle.trackers.proofs.SetLemmas.{row_of_no_set}
+use Rattle.step_model.specs.TargetSets.{row_of_set}
+use Rattle.step_model.proofs.RowLemmas.{row_of_no_set}
 use Rattle.trackers.proofs.sparse_set.SparseSet.none.Goals as goal
 
 pub returns : goal.returns

@@ -1,7 +1,7 @@
 use Rattle.std.proofs.Common.{false, length, ap, sym, ◌∙◌}
 use Rattle.std.specs.Prelude.{replicate}
-use Rattle.trackers.specs.TargetSets.{row_of_set}
-use Rattle.trackers.proofs.SetLemmas.{row_of_no_set, length-row_of_set}
+use Rattle.step_model.specs.TargetSets.{row_of_set}
+use Rattle.step_model.proofs.RowLemmas.{row_of_no_set, length-row_of_set}
 use Rattle.trackers.proofs.sparse_set.SparseSetTargetSet.clear.Goals as goal
 
 pub returns : goal.returns

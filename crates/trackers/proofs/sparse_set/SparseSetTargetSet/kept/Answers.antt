@@ -1,6 +1,6 @@
 use Rattle.std.proofs.Common.{ap, ◌∙◌}
 use Rattle.std.specs.Prelude.{reverse}
-use Rattle.trackers.specs.TargetSets.{members}
+use Rattle.step_model.specs.TargetSets.{members}
 use Rattle.trackers.proofs.SetLemmas.{reverse_is_members}
 use Rattle.trackers.proofs.sparse_set.SparseSetTargetSet.kept.Goals as goal
 

@@ -1,7 +1,7 @@
 use Rattle.std.proofs.Common.{ap, ◌∙◌}
 use Rattle.std.specs.Prelude.{reverse}
 use Rattle.std.proofs.lemmas.Result.{on_ok_weaker}
-use Rattle.trackers.specs.TargetSets.{members}
+use Rattle.step_model.specs.TargetSets.{members}
 use Rattle.trackers.proofs.SetLemmas.{reverse_is_members}
 use Rattle.trackers.proofs.sparse_set.SparseSetTargetSet.list.Goals as goal
 

@@ -3,7 +3,7 @@ use Rattle.std.specs.Prelude.{reverse}
 use Rattle.std.proofs.lemmas.Option.{IfSome_then}
 use Rattle.bit_rows.specs.Rows.{xor_rows}
 use Rattle.trackers.specs.private.Sets.{DescendsBelow, xor_sets}
-use Rattle.trackers.specs.TargetSets.{members, row_of_set}
+use Rattle.step_model.specs.TargetSets.{members, row_of_set}
 use Rattle.trackers.proofs.SetLemmas.{row_of_xor_sets, same_count, DescendsBelow-xor_sets, reverse_is_members}
 use Rattle.trackers.proofs.sparse_set.SparseSetTargetSet.sum_few.Goals as goal
 

@@ -1,7 +1,8 @@
 use Rattle.std.proofs.Common.{false, not, length, get_or, set, ap, ◌∙◌, arith}
 use Rattle.std.proofs.lemmas.Result.{on_ok_weaker}
-use Rattle.trackers.specs.TargetSets.{row_of_set}
-use Rattle.trackers.proofs.SetLemmas.{descends_toggled, length-row_of_set, row_of_toggled}
+use Rattle.step_model.specs.TargetSets.{row_of_set}
+use Rattle.trackers.proofs.SetLemmas.{descends_toggled, row_of_toggled}
+use Rattle.step_model.proofs.RowLemmas.{length-row_of_set}
 use Rattle.trackers.proofs.sparse_set.SparseSetTargetSet.toggle.Goals as goal
 
 pub invariant_of-self : goal.invariant_of-self

@@ -1,5 +1,5 @@
 use Rattle.std.proofs.Common.{false, get_or, ap, sym, ◌∙◌}
-use Rattle.trackers.proofs.RangeLemmas.{filter_range_taken, filter_range_left}
+use Rattle.step_model.proofs.MemberLemmas.{filter_range_taken, filter_range_left}
 use Rattle.trackers.proofs.target_set.BitRowTargetSet.list.Goals as goal
 use Rattle.trackers.proofs.target_set.BitRowTargetSet.list.Goals.{then-get+in_ok-push, else-get}
 

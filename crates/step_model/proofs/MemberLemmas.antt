@@ -1,4 +1,4 @@
--- Lists made from the numbers of a range.
+-- Lists made from the numbers of a range, and the members of sets of numbers.
 use Rattle.std.proofs.Common.{◌≡◌, ◌≢◌, ℕ, zero, suc, ◌+◌, ◌≤◌, ◌<◌, Bool, true, false, List, [], ◌∷◌, ◌++◌, map, length, get_or, set, refl, ap, ap₂, sym, ◌∙◌, eqb, inl, inr, arith, length-set, get_or-set_same, get_or-set_other}
 use Rattle.std.specs.Prelude.{filter, cond, All}
 use Rattle.std.specs.List.{range_with_len, list_any}
@@ -10,7 +10,7 @@ use Rattle.std.proofs.lemmas.List.{map-id, append-nil}
 use Rattle.pauli_word.specs.Parity.{exclusive_or}
 use Rattle.step_model.specs.Targets.{is_listed}
 use Rattle.step_model.proofs.RangeLemmas.{range_rises, among_range}
-use Rattle.trackers.specs.TargetSets.{members}
+use Rattle.step_model.specs.TargetSets.{members}
 use Rattle.std.proofs.lemmas.List.FromFn.{length-range_with_len, get_or-range_with_len, filter_of_map_range_with_len_more, length-map-range_with_len, get_or-map-range_with_len, fill_by_all}
 
 pub map-map : {X Y Z : Type 0} (f : Y → Z) (h : X → Y) (xs : List X) → map f (map h xs) ≡ map (λ x. f (h x)) xs
