@@ -23,7 +23,7 @@ AreFit lists = All (All (λ z. nat_abs z < 2 ^ 63)) lists
 
 -- a repeat for reads that are never made
 abbrev pub nowhere : Repeat
-nowhere = record { first = 0; start = 0; turns = 0; steps = 0 }
+nowhere = record { first = 0; start = 0; turns = 0; steps = 0; inverse = 0 }
 
 last-of : (repeats : List Repeat) (m : ℕ) (d : Repeat) → m < length repeats → reverse (take (suc m) repeats) ≡ get_or repeats m d ∷ reverse (take m repeats)
 last-of repeats m d low =
@@ -277,7 +277,7 @@ pub record IsOfTurn (r : Repeat) (before kept : Lists) (index place turn : ℕ) 
   pub fits : All (λ z. nat_abs z < 2 ^ 63) (moved_by (turn + 1) (get_or kept r.steps []) (get_or before place []))
   pub whole : get_or (with_turns r (take r.start before) kept) index [] ≡ moved_by (turn + 1) (get_or kept r.steps []) (get_or before place [])
 
-pub of_turn : (r : Repeat) (before kept : Lists) (index : ℕ) → IsRepeat r before kept → r.start ≤ index → (index - r.start) / (r.start - r.first) < r.turns → IsOfTurn r before kept index (r.first + (index - r.start) % (r.start - r.first)) ((index - r.start) / (r.start - r.first))
+of_turn : (r : Repeat) (before kept : Lists) (index : ℕ) → IsRepeat r before kept → r.start ≤ index → (index - r.start) / (r.start - r.first) < r.turns → IsOfTurn r before kept index (r.first + (index - r.start) % (r.start - r.first)) ((index - r.start) / (r.start - r.first))
 of_turn r before kept index is behind early =
     let past = index - r.start in
     let size = r.start - r.first in
@@ -308,6 +308,17 @@ of_turn r before kept index is behind early =
           ∙ get_or-append_right front (turns_of r front kept) r.start index [] sizes.front behind
           ∙ moved;
     }
+
+-- the same, where the turn and the place in it are known
+pub of_turn_at : (r : Repeat) (before kept : Lists) (index turn place : ℕ) → IsRepeat r before kept → r.start ≤ index
+    → turn ≡ (index - r.start) / (r.start - r.first) → place ≡ (index - r.start) % (r.start - r.first) → turn < r.turns
+    → IsOfTurn r before kept index (r.first + place) turn
+of_turn_at r before kept index turn place is behind turn_is place_is early =
+    let past = index - r.start in
+    let size = r.start - r.first in
+    subst (λ (k : ℕ). IsOfTurn r before kept index (r.first + k) turn) (sym place_is)
+    (subst (λ (t : ℕ). IsOfTurn r before kept index (r.first + past % size) t) (sym turn_is)
+    (of_turn r before kept index is behind (subst (λ (t : ℕ). t < r.turns) turn_is early)))
 
 -- a list that was pushed behind a repeat's later turns
 pub record IsPushed (r : Repeat) (before kept : Lists) (index place : ℕ) : Type 0 where

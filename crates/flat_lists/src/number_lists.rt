@@ -1,4 +1,4 @@
-ghost use Rattle.std.specs.Prelude.{◌≡◌, ℕ, ◌<◌, ◌≤◌, ◌^◌, ℤ, pos, ◌+ℤ◌, ◌*ℤ◌, List, [], ◌∷◌, ◌++◌, All, drop, length, nat_abs, reverse, slice_index_or, take, IfOk, OnOk, OnErr};
+ghost use Rattle.std.specs.Prelude.{◌≡◌, ℕ, ◌<◌, ◌≤◌, ◌^◌, ◌/◌, ◌%◌, ℤ, pos, ◌+ℤ◌, ◌*ℤ◌, List, [], ◌∷◌, ◌++◌, All, drop, length, nat_abs, reverse, slice_index_or, take, IfOk, OnOk, OnErr};
 ghost use Rattle.std.specs.List.{AllWithin};
 ghost use Rattle.std.specs.List.Sorted.{IsNonDecreasingBy};
 ghost use Rattle.flat_lists.specs.Turns.{later, moved_by};
@@ -22,6 +22,8 @@ struct Repeat {
     turns: u32,
     // At which number the steps of a turn are kept.
     steps: u32,
+    // 2^32 over how many lists a turn has, by which to guess in which turn a list is.
+    inverse: u32,
 }
 
 /// Lists of whole numbers, at most 16 in each. Where lists are those of later turns of a block, only those of its first turn
@@ -113,7 +115,8 @@ impl<A: Allocator + Copy> NumberLists<A> {
         ensures err { OnErr result (self.new ≡ self.old) }
     {
         let start = self.len();
-        let more = turns.saturating_mul(start.saturating_sub(first) as u64);
+        let size = start.saturating_sub(first);
+        let more = turns.saturating_mul(size as u64);
         if more == 0 {
             return Ok(());
         }
@@ -123,6 +126,7 @@ impl<A: Allocator + Copy> NumberLists<A> {
             start: self.len,
             turns: turns as u32,
             steps: 0,
+            inverse: u32::MAX.checked_div(size as u32).unwrap_or(0),
         };
         let moves = moving(steps);
         keep_turns(&mut self.kept, &mut self.repeats, repeat, &steps[..moves])?;
@@ -203,6 +207,23 @@ fn begun(repeats: &[Repeat], index: u32) -> usize
     repeats.partition_point(|repeat| repeat.start <= index)
 }
 
+// In which turn of so many lists one is, and at which place there. To guess by the inverse and to check the guess takes less
+// than a division, which is left for very many lists.
+#[inline(always)]
+fn turn_of(past: u32, size: u32, inverse: u32) -> (u32, u32)
+    requires { 0 < size }
+    ensures turn { result.0 ≡ past / size }
+    ensures place { result.1 ≡ past % size }
+{
+    let guess = (past as u64 + 1).saturating_mul(inverse as u64) >> 32;
+    let before = guess.saturating_mul(size as u64);
+    if before <= past as u64 && past as u64 - before < size as u64 {
+        (guess as u32, (past as u64 - before) as u32)
+    } else {
+        (past / size, past % size)
+    }
+}
+
 // Puts the list at an index in place of what was there. A list of a later turn is that of the first turn, moved on. So this
 // calls itself once for each repeat in whose later turns the index is.
 fn put_list<A: Allocator + Copy>(
@@ -225,17 +246,12 @@ fn put_list<A: Allocator + Copy>(
     let repeat = repeats[count - 1];
     let past = index - repeat.start;
     let size = repeat.start - repeat.first;
-    let turn = past / size;
+    let (turn, place) = turn_of(past, size, repeat.inverse);
     if turn >= repeat.turns {
         let behind = past - repeat.turns * size;
         kept.put(repeat.steps as usize + 1 + behind as usize, list);
         return;
     }
-    put_list(
-        kept,
-        &repeats[..count - 1],
-        repeat.first + past % size,
-        list,
-    );
+    put_list(kept, &repeats[..count - 1], repeat.first + place, list);
     kept.move_on(repeat.steps as usize, turn + 1, list.as_mut_slice());
 }

@@ -8,7 +8,7 @@ use Rattle.flat_lists.specs.Turns.{later, moved_by}
 
 -- a repeat whose steps are kept at this number
 abbrev pub with_steps : Repeat → ℕ → Repeat
-with_steps r steps = record { first = r.first; start = r.start; turns = r.turns; steps = steps }
+with_steps r steps = record { first = r.first; start = r.start; turns = r.turns; steps = steps; inverse = r.inverse }
 
 -- the lists of a repeat's later turns, behind these lists
 abbrev pub turns_of : Repeat → List (List ℤ) → List (List ℤ) → List (List ℤ)

@@ -13,7 +13,7 @@ pub returns-then-more-eq0-clause-ok : goal.returns-then-more-eq0-clause-ok
 returns-then-more-eq0-clause-ok g c =
     let lists = c.args.self.now in
     let turns = later (λ n. moved_by n c.args.steps.now) c.args.turns (drop c.args.first lists) in
-    let size : c.saturating_sub.result ≡ length (drop c.args.first lists) = omega (arith, c.saturating_sub.ensures, c.len-start.ensures, length-drop c.args.first lists) in
+    let size : c.saturating_sub-size.result ≡ length (drop c.args.first lists) = omega (arith, c.saturating_sub-size.ensures, c.len-start.ensures, length-drop c.args.first lists) in
     let none : length turns ≡ 0 = omega (arith, length-later (λ n. moved_by n c.args.steps.now) c.args.turns (drop c.args.first lists), ap (λ n. c.args.turns * n) size, c.saturating_mul-more.ensures, c.if-more-eq0.true) in
     sym (ap (λ xs. lists ++ xs) (nil_from_length turns none) ∙ append-nil lists)
 
@@ -25,14 +25,14 @@ turned : (g : Over) (c : In_ok-keep_turns g) → HasTurns c.keep_turns.new.repea
 turned g c =
     let lists = c.args.self.now in
     let len = c.self.inside.len in
-    let size : c.saturating_sub.result ≡ len - c.args.first = omega (arith, c.saturating_sub.ensures, c.len-start.ensures, c.self.invariant.count, ap length c.self.view_is) in
-    let more : c.saturating_mul-more.result ≡ min (c.args.turns * c.saturating_sub.result) (2 ^ 64 - 1) = c.saturating_mul-more.ensures in
+    let size : c.saturating_sub-size.result ≡ len - c.args.first = omega (arith, c.saturating_sub-size.ensures, c.len-start.ensures, c.self.invariant.count, ap length c.self.view_is) in
+    let more : c.saturating_mul-more.result ≡ min (c.args.turns * c.saturating_sub-size.result) (2 ^ 64 - 1) = c.saturating_mul-more.ensures in
     let some : c.saturating_mul-more.result ≢ 0 = c.if-more-eq0.false in
-    let product : c.args.turns * c.saturating_sub.result ≡ c.args.turns * (len - c.args.first) = ap (λ n. c.args.turns * n) size in
+    let product : c.args.turns * c.saturating_sub-size.result ≡ c.args.turns * (len - c.args.first) = ap (λ n. c.args.turns * n) size in
     let end : c.in_ok-end.end ≡ len + c.saturating_mul-more.result = c.in_ok-end.ensures ∙ ap (λ n. n + c.saturating_mul-more.result) (c.len-start.ensures ∙ sym (c.self.invariant.count ∙ ap length c.self.view_is)) in
     let few : Fits w32 c.in_ok-end.end = search rules in
     has_turns c.self.inside.repeats.items c.keep_turns.new.repeats.items c.self.inside.kept c.keep_turns.new.kept lists len c.in_ok-end.end c.moving-moves.result c.args.steps.now
-    (record { first = c.args.first; start = len; turns = c.args.turns; steps = length c.self.inside.kept })
+    (record { first = c.args.first; start = len; turns = c.args.turns; steps = length c.self.inside.kept; inverse = c.unwrap_or.result })
     c.self.invariant
     c.self.view_is
     c.moving-moves.ensures.same
