@@ -6,42 +6,7 @@ use Rattle.std.proofs.lemmas.Bool.Decides.{leb_tells}
 use Rattle.std.proofs.lemmas.Fmt.{decimal_digit, decimal_step}
 use Rattle.std.proofs.lemmas.List.{drop-set-add, get_or-drop, same_from_push}
 use Rattle.error_models.specs.private.DetectorEnds.{HasEnd}
-
--- the digits of a number, the last of them apart
-record Digits (n : ℕ) : Type 0 where
-  front : List ℕ
-  last : ℕ
-  whole : front ++ last ∷ [] ≡ decimal n
-
-digits_of : (n : ℕ) → n < 2 ^ 32 → Digits n
-digits_of n small = elim (leb_tells (suc n) 10) [
-  | inl one ↦ record { front = []; last = 48 + n; whole = sym (decimal_digit n (omega (arith, one.1))) }
-  | inr more ↦ record { front = decimal (n / 10); last = 48 + n % 10; whole = sym (decimal_step n (omega (arith, more.1)) (omega (arith, small))) }
-]
-
--- a last digit that isn't nought becomes that of the number before
-pub record Falls (n : ℕ) (ds : List ℕ) (d : ℕ) : Type 0 where
-  pub some : 0 < n
-  pub digits : ds ++ (d - 1) ∷ [] ≡ decimal (n - 1)
-
-last_falls : (n : ℕ) (ds : List ℕ) (d : ℕ) → n < 2 ^ 32 → ds ++ d ∷ [] ≡ decimal n → 48 < d → Falls n ds d
-last_falls n ds d small is high = elim (leb_tells (suc n) 10) [
-  | inl one ↦
-      let parts = same_from_push ds [] d (48 + n) (is ∙ decimal_digit n (omega (arith, one.1))) in
-      let next : d - 1 ≡ 48 + (n - 1) = omega (arith, parts.1, high) in
-      record {
-        some = omega (arith, parts.1, high);
-        digits = ap₂ (λ l e. l ++ e ∷ []) parts.0 next ∙ sym (decimal_digit (n - 1) (omega (arith, one.1)));
-      }
-  | inr more ↦
-      let parts = same_from_push ds (decimal (n / 10)) d (48 + n % 10) (is ∙ decimal_step n (omega (arith, more.1)) (omega (arith, small))) in
-      let same : n / 10 ≡ (n - 1) / 10 = omega (arith, parts.1, high) in
-      let next : d - 1 ≡ 48 + (n - 1) % 10 = omega (arith, parts.1, high) in
-      record {
-        some = omega (arith, more.1);
-        digits = ap₂ (λ l e. l ++ e ∷ []) (parts.0 ∙ ap decimal same) next ∙ sym (decimal_step (n - 1) (omega (arith, more.1, parts.1, high)) (omega (arith, small)));
-      }
-]
+use Rattle.error_models.proofs.LastDigits.{Digits, digits_of, last_falls}
 
 -- where the last digit stands
 record IsLast (n len : ℕ) (bytes front : List ℕ) (last : ℕ) : Type 0 where

@@ -1,5 +1,5 @@
 //! The texts of targets, made once for all lines.
-ghost use Rattle.std.specs.Prelude.{◌≡◌, ◌<◌, ◌≤◌, ◌+◌, ◌*◌, ◌++◌, All, IfOk, drop, length, reverse};
+ghost use Rattle.std.specs.Prelude.{◌≡◌, ◌<◌, ◌≤◌, ◌+◌, ◌-◌, ◌*◌, ◌++◌, All, IfOk, drop, length, reverse};
 ghost use Rattle.error_models.specs.HeldText.{most_named};
 ghost use Rattle.error_models.specs.ModelText.{target_text, targets_text};
 ghost use Rattle.error_models.specs.private.TargetNames.{reversed_where};
@@ -10,6 +10,9 @@ use std::marker::Model;
 
 /// How long the text of a target is at most here, in bytes: a space, a letter and six digits.
 pub(crate) const NAME: usize = 8;
+
+/// Where the last digit of such a text is.
+const LAST: usize = 7;
 
 /// The text of a target, at the end of a fixed number of bytes, so that all of them are copied at once.
 #[derive(Drop)]
@@ -42,6 +45,26 @@ impl Name {
         Name {
             bytes,
             len: (ANY_NAME - start) as u8,
+        }
+    }
+
+    // The name of a target, where this is that of the one before it. Mostly its last digit is the next one.
+    #[inline(always)]
+    fn next(&self, detectors: usize, target: usize) -> Self
+        requires few_detectors { detectors ≤ most_named }
+        requires few { target < detectors + most_named }
+        requires some { 0 < target }
+        requires before { self.now ≡ target_text detectors (target - 1) }
+        ensures { result ≡ target_text detectors target }
+    {
+        let mut bytes = self.bytes;
+        if bytes[LAST] >= b'9' || target == detectors {
+            return Name::new(detectors, target);
+        }
+        bytes[LAST] += 1;
+        Name {
+            bytes,
+            len: self.len,
         }
     }
 
@@ -87,9 +110,14 @@ impl<A: Allocator + Copy> Names<A> {
         ensures { IfOk result (λ names. names
             ≡ record { detectors = detectors; targets = targets }) }
     {
-        let mut names = Vec::with_capacity(alloc, targets)?;
+        let mut names: Vec<Name, A> = Vec::with_capacity(alloc, targets)?;
         for target in 0..targets {
-            names.push_reserved(Name::new(detectors, target));
+            let name = if target == 0 {
+                Name::new(detectors, target)
+            } else {
+                names[target - 1].next(detectors, target)
+            };
+            names.push_reserved(name);
         }
         Ok(Names { detectors, names })
     }
