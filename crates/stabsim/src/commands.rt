@@ -1,11 +1,5 @@
 //! What a command line asks for, done from a runtime's standard input to its standard output.
-ghost use Rattle.std.specs.Prelude.{◌≡◌, ◌≢◌};
-ghost use Rattle.clap.specs.declared.error.kind.ErrorKind.TheVariants.{OutOfMemory, DisplayHelp};
-ghost use Rattle.stabsim.specs.declared.commands.Reply.TheVariants.{Nothing, Help, Usage};
-
-use crate::command_line::{order_of, read_words};
-use clap::error::ErrorKind;
-use clap::{ArgMatches, Error};
+use command_line::{Asked, asked_by};
 use engine::{Order, exit_status, serve};
 use std::rt::Env;
 use std::{env, io};
@@ -30,16 +24,15 @@ pub fn respond<R: Env + Input + Print + AllocGlobal>(rt: &R) -> u8 {
         Err(error) if error.kind() == io::ErrorKind::OutOfMemory => return FAILED,
         Err(_) => return refuse_line(rt),
     };
-    match read_words(rt.alloc(), words.as_slice()) {
-        Ok(matches) => obey(rt, &matches),
-        Err(error) => explain(rt, &error),
-    }
+    obey(rt, &asked_by(rt.alloc(), words.as_slice()))
 }
 
-fn obey<R: Input + Print + AllocGlobal>(rt: &R, matches: &ArgMatches<'_>) -> u8 {
-    match order_of(matches) {
-        Some(order) => respond_to(rt, &order),
-        None => refuse_line(rt),
+fn obey<R: Input + Print + AllocGlobal>(rt: &R, asked: &Asked<'_>) -> u8 {
+    match asked {
+        Asked::Order(order) => respond_to(rt, order),
+        Asked::Help(text) => show(rt, text),
+        Asked::Usage => refuse_line(rt),
+        Asked::NoMemory => FAILED,
     }
 }
 
@@ -50,35 +43,10 @@ fn respond_to<R: Input + Print + AllocGlobal>(rt: &R, order: &Order<'_>) -> u8 {
     exit_status(serve(rt.alloc(), order, &mut source, &mut sink))
 }
 
-/// What is written for words that give no order.
-enum Reply {
-    Nothing,
-    Help,
-    Usage,
-}
-
-/// Want of memory is no fault of the words, and help isn't either.
-fn reply_to(kind: ErrorKind) -> Reply
-    ensures memory { kind ≡ OutOfMemory → result ≡ Nothing }
-    ensures help { kind ≡ DisplayHelp → result ≡ Help }
-    ensures others { kind ≢ OutOfMemory → kind ≢ DisplayHelp → result ≡ Usage }
-{
-    match kind {
-        ErrorKind::OutOfMemory => Reply::Nothing,
-        ErrorKind::DisplayHelp => Reply::Help,
-        _ => Reply::Usage,
-    }
-}
-
-/// Writes the help that was asked for, or refuses the command line.
-fn explain<R: Print>(rt: &R, error: &Error) -> u8 {
-    match reply_to(error.kind()) {
-        Reply::Nothing => FAILED,
-        Reply::Help => match rt.print(error) {
-            Ok(()) => DONE,
-            Err(_) => FAILED,
-        },
-        Reply::Usage => refuse_line(rt),
+fn show<R: Print>(rt: &R, help: &str) -> u8 {
+    match rt.print(help) {
+        Ok(()) => DONE,
+        Err(_) => FAILED,
     }
 }
 

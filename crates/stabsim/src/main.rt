@@ -1,9 +1,7 @@
 //! The program: does what its command line asks, and ends with the status that comes of it.
 #![tactic(auto)]
 
-mod command_line;
 mod commands;
-mod help;
 
 use commands::respond;
 use std::process::ExitCode;
