@@ -8,8 +8,8 @@ use std::alloc::{AllocError, Allocator};
 /// Two lists are short where they have at most this many together.
 pub const FEW: usize = 16;
 
-/// Puts the first `len` of these in place of what a list holds, which is emptied by an error. Each length up to four has
-/// an arm of its own, in which it is known what places stay blank: else to make them blank is a call.
+/// Puts the first `len` of these in place of what a list holds, which is emptied by an error. Few are put one by one: to read
+/// at once what was just written in parts takes longer.
 #[inline(always)]
 pub(crate) fn put_few<A: Allocator + Copy>(
     items: &mut SmallVec<u32, 4, A>,
@@ -20,19 +20,13 @@ pub(crate) fn put_few<A: Allocator + Copy>(
     ensures ok { OnOk result (items.new.items ≡ take len sum.now) }
     ensures err { OnErr result (items.new.items ≡ []) }
 {
-    if items.spilled() {
+    if items.spilled() || len > 4 {
         return replace(items, &sum[..len]);
     }
-    let alloc = *items.allocator();
-    let four = [sum[0], sum[1], sum[2], sum[3]];
-    *items = match len {
-        0 => SmallVec::new(alloc),
-        1 => SmallVec::from_buf_and_len(alloc, four, 1),
-        2 => SmallVec::from_buf_and_len(alloc, four, 2),
-        3 => SmallVec::from_buf_and_len(alloc, four, 3),
-        4 => SmallVec::from_buf(alloc, four),
-        _ => return replace(items, &sum[..len]),
-    };
+    *items = SmallVec::new(*items.allocator());
+    for i in 0..len {
+        items.push_reserved(sum[i]);
+    }
     Ok(())
 }
 
