@@ -9,7 +9,8 @@ use Rattle.step_model.specs.Listing.{Listing}
 use Rattle.step_model.specs.Sensitivities.{place_of, after_or_start, latest_place, lowest_X_or_Y}
 use Rattle.step_model.specs.Targets.{targets_of, target_at}
 use Rattle.step_model.specs.WellFormed.{IsWellFormed, collapse_count}
-use Rattle.backward.specs.private.Passes.{sensitivity_before, latest_before, lowest_below, opened}
+use Rattle.backward.specs.private.Passes.{latest_before, lowest_below, opened}
+use Rattle.record_targets.specs.ListingSets.{sensitivity_before}
 use Rattle.backward.specs.Places.{place_from, NoneIsRandom, IsLowestRandom}
 use Rattle.backward.proofs.PassPlaces.{lowest_below-all}
 

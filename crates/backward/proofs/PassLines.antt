@@ -17,7 +17,8 @@ use Rattle.step_model.specs.Targets.{targets_of, target_at, is_listed}
 use Rattle.step_model.specs.WellFormed.{IsWellFormed, faults_named, step_faults}
 use Rattle.step_model.proofs.HitSteps.{NamesFew, Nothing, One_fault, earlier, first_of_range, names_few, or_none, rest_of_range, unnamed}
 use Rattle.error_models.specs.ModelText.{line_text}
-use Rattle.backward.specs.private.Passes.{sensitivity_before, tracked_before, listing_set, listing_at}
+use Rattle.backward.specs.private.Passes.{tracked_before, listing_at}
+use Rattle.record_targets.specs.ListingSets.{sensitivity_before, listing_set}
 use Rattle.backward.specs.private.Stretches.{line_for, hit_at, line_at, first_lines, lines_at, lines_between, text_between}
 use Rattle.trackers.specs.Tracked.{anticommuting}
 use Rattle.backward.proofs.PassWords.{words_count, words_at}

@@ -17,7 +17,8 @@ use Rattle.step_model.specs.Sensitivities.{later_or_here, latest_place, has_X_or
 use Rattle.step_model.specs.Targets.{targets_of, target_at}
 use Rattle.step_model.specs.WellFormed.{step_fits}
 use Rattle.backward.specs.private.Collapses.{or_where, noted}
-use Rattle.backward.specs.private.Passes.{sensitivity_before, tracked_before, latest_before, lowest_below, opened}
+use Rattle.backward.specs.private.Passes.{tracked_before, latest_before, lowest_below, opened}
+use Rattle.record_targets.specs.ListingSets.{sensitivity_before}
 use Rattle.trackers.specs.Tracked.{Tracked, is_among, anticommuting}
 use Rattle.backward.proofs.PassLines.{anticommuting-before}
 use Rattle.step_model.proofs.RangeLemmas.{among_range}

@@ -11,10 +11,12 @@ use Rattle.pauli_word.specs.Words.{anticommute}
 use Rattle.step_model.specs.Listing.{Listing, ListedStep, One, Two, Collapse, Fault, Feedback, Measured, Recorded, step_records}
 use Rattle.step_model.specs.Targets.{targets_of}
 use Rattle.step_model.specs.WellFormed.{IsWellFormed, feeds_earlier, is_earlier, records_made}
-use Rattle.backward.specs.private.Collapses.{members_at, toggled_each}
-use Rattle.backward.specs.private.Passes.{HoldsLists, IsStepAt, listing_at, listing_set, listing_sets, records_before, sensitivity_before}
+use Rattle.backward.specs.private.Collapses.{members_at}
+use Rattle.record_targets.specs.ListingSets.{toggled_each, listing_set, listing_sets, sensitivity_before}
+use Rattle.backward.specs.private.Passes.{HoldsLists, IsStepAt, listing_at, records_before}
 use Rattle.step_model.specs.TargetSets.{members}
-use Rattle.backward.proofs.PassSets.{listing_set-fed, listing_set-other, length-toggled_each, length-listing_sets, listing_sets-row, listing_sets-long}
+use Rattle.record_targets.proofs.SetLemmas.{length-listing_sets, length-toggled_each, listing_sets-long, listing_sets-row}
+use Rattle.backward.proofs.PassSets.{listing_set-fed, listing_set-other}
 
 and_left : (a b : Bool) → (a && b) ≡ true → a ≡ true
 and_left true b e = refl

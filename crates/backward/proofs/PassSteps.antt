@@ -22,8 +22,9 @@ use Rattle.programs.specs.Listed.{listed, measured, recorded}
 use Rattle.programs.specs.Named.{IsNamed, IsNamedFlip, IsRecord}
 use Rattle.programs.proofs.NamedFaults.{named_fault}
 use Rattle.backward.specs.declared.found.Found.{Found}
-use Rattle.backward.specs.private.Collapses.{undone_collapse, members_at, noted, toggled_each}
-use Rattle.backward.specs.private.Passes.{HoldsLists, IsCollapseAt, IsFeedbackAt, IsJudged, IsMeasured, IsPassed, IsStepAt, latest_before, listing_at, opened, records_before, sensitivity_before, tracked_before}
+use Rattle.backward.specs.private.Collapses.{undone_collapse, members_at, noted}
+use Rattle.record_targets.specs.ListingSets.{toggled_each, sensitivity_before}
+use Rattle.backward.specs.private.Passes.{HoldsLists, IsCollapseAt, IsFeedbackAt, IsJudged, IsMeasured, IsPassed, IsStepAt, latest_before, listing_at, opened, records_before, tracked_before}
 use Rattle.backward.specs.private.Stretches.{Gives, first_lines, flip_line, line_at, line_for, lines_at}
 use Rattle.trackers.specs.Tracked.{Tracked, each_word, undone_one, undone_two, anticommuting}
 use Rattle.backward.proofs.PassLines.{anticommuting-before, hit_at-collapse, hit_at-fault}

@@ -15,7 +15,8 @@ use Rattle.step_model.specs.Sensitivities.{cleared, multiplied, record_counts}
 use Rattle.step_model.specs.Targets.{targets_of, is_listed}
 use Rattle.step_model.specs.WellFormed.{step_fits}
 use Rattle.backward.specs.private.Collapses.{times_terms, reset_at, undone_collapse}
-use Rattle.backward.specs.private.Passes.{IsMeasured, reset_word, sensitivity_before, tracked_before, listing_set, listing_at}
+use Rattle.backward.specs.private.Passes.{IsMeasured, reset_word, tracked_before, listing_at}
+use Rattle.record_targets.specs.ListingSets.{sensitivity_before, listing_set}
 use Rattle.trackers.specs.Tracked.{Tracked, fresh, each_word, with_I_at, undone_one, undone_two, is_among, added}
 use Rattle.step_model.proofs.MemberLemmas.{map_range_below, map-map, among_members}
 use Rattle.step_model.proofs.SensitivityLengths.{length-sensitivity}

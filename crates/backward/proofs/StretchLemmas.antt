@@ -17,7 +17,8 @@ use Rattle.backward.specs.declared.point.KeptPoint.{KeptPoint}
 use Rattle.backward.specs.declared.point.Point.{Point}
 use Rattle.backward.specs.declared.stretch.Parts.{Parts}
 use Rattle.trackers.specs.Tracked.{Tracked, Fit, restored}
-use Rattle.backward.specs.private.Passes.{HoldsLists, IsJudged, IsPassed, records_before, sensitivity_before, tracked_before}
+use Rattle.backward.specs.private.Passes.{HoldsLists, IsJudged, IsPassed, records_before, tracked_before}
+use Rattle.record_targets.specs.ListingSets.{sensitivity_before}
 use Rattle.backward.specs.private.Points.{AreParts, IsFor, IsPointOf, IsReady, PushesSome, first_place}
 use Rattle.backward.specs.private.Stretches.{text_between}
 use Rattle.trackers.proofs.KeptLemmas.{fit_alike, restored_alike}

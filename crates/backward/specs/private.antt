@@ -1,11 +1,7 @@
 pub mod Answered
-pub mod Apart
 pub mod Collapses
-pub mod Links
-pub mod ListedTargets
 pub mod Numbered
 pub mod Passes
 pub mod Points
-pub mod RecordSets
 pub mod Steps
 pub mod Stretches

@@ -6,9 +6,9 @@ ghost use Rattle.trackers.specs.Tracked.{anticommuting, fresh};
 ghost use Rattle.backward.specs.private.Collapses.{members_at, noted};
 ghost use Rattle.backward.specs.private.Passes.{HoldsLists, IsPassed, opened, records_before};
 
-use crate::changing_lists::ChangingLists;
 use crate::places::note;
 use programs::Program;
+use record_targets::ChangingLists;
 use std::alloc::{AllocError, Allocator};
 use step_model::Term;
 use trackers::Tracker;

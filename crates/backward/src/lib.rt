@@ -3,20 +3,15 @@
 #![tactic(auto)]
 
 mod analysis;
-mod ascending;
-mod changing_lists;
 mod collapse;
 mod faults;
 mod found;
 mod line_store;
-mod listed_targets;
 mod pass;
 mod places;
 mod point;
 mod points;
-mod record_lists;
 mod stretch;
-mod targets;
 mod text_store;
 mod writing;
 

@@ -6,9 +6,9 @@ ghost use Rattle.error_models.specs.HeldText.{HoldsLines};
 ghost use Rattle.programs.specs.Kept.{kept_at};
 
 use crate::line_store::LineStore;
-use crate::targets::target_count;
 use error_models::{HeldText, LinesText};
 use programs::{ChanceTable, Program};
+use record_targets::target_count;
 use std::alloc::{AllocError, Allocator};
 use step_model::ChanceText;
 

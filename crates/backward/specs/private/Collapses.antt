@@ -4,7 +4,7 @@
 -- project's own.)
 use Rattle.std.specs.Prelude.{ℕ, Bool, true, false, List, [], ◌∷◌, Option, None, Some, slice_index_or, slice_set}
 use Rattle.step_model.specs.declared.step.Term.{Term}
-use Rattle.step_model.specs.TargetSets.{members, toggled}
+use Rattle.step_model.specs.TargetSets.{members}
 use Rattle.trackers.specs.Tracked.{Tracked, each_word, with_I_at, added}
 
 -- the words of some targets, multiplied by each letter at a qubit
@@ -25,11 +25,6 @@ undone_collapse targets terms reset t = times_terms targets terms (reset_at rese
 abbrev pub members_at : List (List Bool) → Option ℕ → List ℕ
 members_at sets None = []
 members_at sets (Some r) = members (slice_index_or sets r [])
-
--- a set with each of some targets toggled
-abbrev pub toggled_each : List ℕ → List Bool → List Bool
-toggled_each [] set = set
-toggled_each (t ∷ ts) set = toggled_each ts (toggled t set)
 
 -- what is there; where nothing is, the value if b
 abbrev pub or_where : ℕ → Bool → Option ℕ → Option ℕ

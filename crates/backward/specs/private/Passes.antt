@@ -7,8 +7,8 @@ use Rattle.pauli_word.specs.declared.letter.Letter.{Letter}
 use Rattle.pauli_word.specs.Words.{lone_letter}
 use Rattle.step_model.specs.declared.step.Term.{Term}
 use Rattle.step_model.specs.Listing.{Listing, ListedStep, Collapse, Feedback, Measured, word_of_terms, measured_word}
-use Rattle.step_model.specs.Sensitivities.{Sensitivity, cleared, sensitivity, latest_place, lowest_X_or_Y}
-use Rattle.step_model.specs.Targets.{targets_of, target_at, is_listed}
+use Rattle.step_model.specs.Sensitivities.{cleared, latest_place, lowest_X_or_Y}
+use Rattle.step_model.specs.Targets.{targets_of, target_at}
 use Rattle.step_model.specs.WellFormed.{collapse_count, records_made}
 use Rattle.programs.specs.Kept.{KeptProgram}
 use Rattle.programs.specs.Listed.{recorded}
@@ -17,10 +17,7 @@ use Rattle.programs.specs.declared.step.FaultName.{FaultName}
 use Rattle.backward.specs.declared.found.Found.{Found}
 use Rattle.trackers.specs.Tracked.{Tracked, with_I_at}
 use Rattle.step_model.specs.TargetSets.{members}
-
--- the sensitivity of a target before these steps, which are the last
-abbrev pub sensitivity_before : Listing → List ListedStep → ℕ → Sensitivity
-sensitivity_before program steps d = sensitivity program.qubits (target_at program d) steps
+use Rattle.record_targets.specs.ListingSets.{listing_set, sensitivity_before}
 
 -- what is tracked before these steps
 abbrev pub tracked_before : Listing → List ListedStep → Tracked
@@ -29,15 +26,6 @@ tracked_before program steps =
       qubits = program.qubits;
       words = map (λ d. (sensitivity_before program steps d).word) (range_with_len 0 (length (targets_of program)));
     }
-
--- for each target whether its sensitivity lists a record an odd number of times
-abbrev pub listing_set : Listing → List ListedStep → ℕ → List Bool
-listing_set program steps r =
-    map (λ d. is_listed (sensitivity_before program steps d).records r) (range_with_len 0 (length (targets_of program)))
-
--- the same for each record
-abbrev pub listing_sets : Listing → List ListedStep → List (List Bool)
-listing_sets program steps = map (listing_set program steps) (range_with_len 0 program.records)
 
 -- the targets that list a record, none where there is no record
 abbrev pub listing_at : Listing → List ListedStep → Option ℕ → List ℕ

@@ -10,7 +10,7 @@ use Rattle.step_model.specs.WellFormed.{step_faults}
 use Rattle.programs.specs.Kept.{KeptProgram, kept_at}
 use Rattle.programs.specs.declared.step.FaultName.{FaultName}
 use Rattle.error_models.specs.ModelText.{line_text}
-use Rattle.backward.specs.private.Passes.{sensitivity_before}
+use Rattle.record_targets.specs.ListingSets.{sensitivity_before}
 
 -- the error line of a fault that flips these targets; none where there are none
 abbrev pub line_for : List ℕ → List ℕ → List ErrorLine

@@ -1,0 +1,7 @@
+mod ApartLemmas
+mod ChangeLemmas
+mod LinkLemmas
+mod ListedLemmas
+mod OrderLemmas
+mod PairLemmas
+pub mod SetLemmas

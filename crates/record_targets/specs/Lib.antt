@@ -1,0 +1,2 @@
+pub mod ListingSets
+pub mod private

@@ -1,0 +1,4 @@
+pub mod Apart
+pub mod Links
+pub mod ListedTargets
+pub mod RecordSets
