@@ -1,5 +1,6 @@
 mod FrameSteps
 mod Passing
+mod StillFrames
 mod TermWords
 pub mod Beside
 pub mod Detections

@@ -7,7 +7,7 @@ ghost use Rattle.step_model.specs.Runs.{records_of, start};
 ghost use Rattle.frames.specs.Batches.{AreAtStart};
 
 use crate::frames::Frames;
-use crate::steps::{take_other, take_step, word_at};
+use crate::steps::{is_quiet, take_step, word_at};
 use forward_sim::Reference;
 use programs::{Program, Walk};
 use std::alloc::Allocator;
@@ -38,6 +38,8 @@ pub(crate) fn follow_steps<A: Allocator + Copy>(
     let _collapses = program.collapse_count();
     let mut walk = Walk::start(program);
     let mut collapse = 0;
+    // whether all frames are I, as at the start
+    let mut still = true;
     while let Some(step) = walk.next_step() {
         reference.go_over(program, &step);
         if step.is_collapse() {
@@ -51,8 +53,10 @@ pub(crate) fn follow_steps<A: Allocator + Copy>(
                 step,
             );
             collapse += 1;
-        } else {
-            take_other(frames, program, faults, step);
+            still = false;
+        } else if !is_quiet(faults, still, step) {
+            take_step(frames, program, faults, None, 0, step);
+            still = false;
         }
     }
 }

@@ -1,4 +1,4 @@
-ghost use Rattle.std.specs.Prelude.{◌≡◌, ◌<◌, ◌≤◌, ◌+◌, ℕ, None, false, is_some, IsTrue, if◌then◌else◌, length, option_map, slice_index_or};
+ghost use Rattle.std.specs.Prelude.{◌≡◌, ◌<◌, ◌≤◌, ◌+◌, ℕ, false, is_some, IsTrue, if◌then◌else◌, length, option_map, slice_index_or};
 ghost use Rattle.bit_rows.specs.Lanes.{lane, lane_bit};
 ghost use Rattle.pauli_word.specs.Parity.{exclusive_or};
 ghost use Rattle.pauli_word.specs.Words.{lone_letter};
@@ -76,33 +76,14 @@ pub(crate) fn take_step<A: Allocator + Copy>(
     }
 }
 
-/// The same for a step that is no collapse. Most faults happen in none of the runs.
+/// Whether a step that is no collapse leaves all frames as they are: a fault that happens in none of the runs, as most
+/// do, or a gate where `still`, which says that all frames are I.
 #[inline(always)]
-pub(crate) fn take_other<A: Allocator + Copy>(
-    frames: &mut Frames<A>,
-    program: &Program<'_, A>,
-    faults: &[u64],
-    step: Step,
-)
-    requires of_program { IsStepOf program.now step }
-    requires qubits { length frames.old.letters ≡ program.now.listing.qubits }
-    requires room { length frames.old.flips + length
-        (step_records (listed program.now.listing.qubits program.now.products step))
-        ≤ frames.old.room }
-    ensures { GoesTo frames.old frames.new (λ j v. followed program.now.listing (lane j faults.now)
-        None (lane_bit j 0) (listed program.now.listing.qubits program.now.products step) v) }
-{
-    if !is_quiet(faults, step) {
-        take_step(frames, program, faults, None, 0, step);
-    }
-}
-
-// Whether a step is a fault that happens in none of the runs.
-#[inline(always)]
-fn is_quiet(faults: &[u64], step: Step) -> bool
-    ensures { IsTrue result → ChangesNothing faults.now step }
+pub(crate) fn is_quiet(faults: &[u64], still: bool, step: Step) -> bool
+    ensures { IsTrue result → ChangesNothing faults.now still step }
 {
     match step {
+        Step::One { .. } | Step::Two { .. } => still,
         Step::Fault(name) => word_at(faults, name.number as usize) == 0,
         _ => false,
     }

@@ -3,13 +3,13 @@
 -- its coin. Where the frame would give another outcome, it is first multiplied by a word of the reference run's state
 -- that anticommutes with the word measured; that leaves the run's state the same. (Pauli frames: Knill, Nature 434, 39
 -- (2005); with a reference sample, as in Stim's frame simulator: Gidney, Quantum 5, 497 (2021).)
-use Rattle.std.specs.Prelude.{⊤, ◌≡◌, ℕ, Bool, true, List, [], Option, None, Some, option_map}
+use Rattle.std.specs.Prelude.{⊤, ◌≡◌, ℕ, Bool, true, List, [], length, Option, None, Some, option_map}
 use Rattle.bit_rows.specs.Lanes.{lane, lane_bit}
 use Rattle.forward_sim.specs.References.{terms_in}
 use Rattle.forward_sim.specs.declared.replaced_word.ReplacedWord.{ReplacedWord}
 use Rattle.pauli_word.specs.declared.letter.Letter.{Letter}
 use Rattle.pauli_word.specs.Parity.{exclusive_or}
-use Rattle.pauli_word.specs.Words.{anticommute, lone_letter}
+use Rattle.pauli_word.specs.Words.{anticommute, lone_letter, no_letters}
 use Rattle.programs.specs.Listed.{listed, measured}
 use Rattle.programs.specs.declared.step.Step.{Step}
 use Rattle.step_model.specs.declared.step.Term.{Term}
@@ -43,10 +43,19 @@ abbrev pub followed : Listing → List Bool → Option (List Term) → Bool → 
 followed program faults replaced coin step v =
     carried_with program [] faults step (turned_at program.qubits replaced coin step v)
 
--- a step at which no frame of these runs changes, where it is no collapse
-abbrev pub ChangesNothing : List ℕ → Step → Type 0
-ChangesNothing faults step =
+-- a frame whose letters are all I
+abbrev pub IsStill : Frame → Type 0
+IsStill v = v.word ≡ no_letters (length v.word)
+
+-- all frames are such
+abbrev pub AreStill : LaneFrames → Type 0
+AreStill f = (j : ℕ) → IsStill (frame_in j f)
+
+-- a step that changes no frame of these runs, or, where `still`, none that is I, where the step is no collapse
+abbrev pub ChangesNothing : List ℕ → Bool → Step → Type 0
+ChangesNothing faults still step =
     (program : Listing) (products : List (List Term)) (j : ℕ) (coin : Bool) (v : Frame)
+    → (still ≡ true → IsStill v)
     → followed program (lane j faults) None coin (listed program.qubits products step) v ≡ v
 
 -- the letters at qubits of a word that is kept of a collapse, if any

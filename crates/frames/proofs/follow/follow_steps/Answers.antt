@@ -15,6 +15,7 @@ use Rattle.frames.specs.Batches.{start_frame}
 use Rattle.frames.specs.private.Followed.{TurnsAt, followed}
 use Rattle.frames.specs.LaneFrames.{GoesTo}
 use Rattle.frames.proofs.Beside.{Beside, beside-start, beside-other, beside-collapse, beside-room, beside-end, entry-turns}
+use Rattle.frames.proofs.StillFrames.{goes_nowhere, still-start}
 use Rattle.frames.proofs.follow.follow_steps.Given.{Over}
 use Rattle.frames.proofs.follow.follow_steps.Goals as goal
 use Rattle.frames.proofs.follow.follow_steps.Goals.{In-Some}
@@ -43,6 +44,7 @@ loop-step-init g c =
           subst (λ k. Beside program reference c.args.faults.now c.args.coins.now (drop k program.steps) 0 f) (sym c.start-walk.ensures.place)
           (beside-start program reference c.args.faults.now c.args.coins.now f c.well_formed-2.ensures.listing c.requires.reference c.requires.stands
           (λ j. c.requires.start j ∙ ap start_frame c.requires.qubits));
+      still = λ is. still-start f c.requires.start;
     }
 
 pub go_over-requires-clause-next : goal.go_over-requires-clause-next
@@ -107,12 +109,35 @@ loop-step-preserved-then-is_collapse g c =
           beside-collapse program c.loop-step.reference after c.args.faults.now c.args.coins.now (listed_of c.args.program.now c.in-Some.step) (drop c.next_step.new.self.place program.steps) c.loop-step.collapse c.word_at.result c.loop-step.frames c.take_step.new.frames
           (fits g here) (collapses g here c.is_collapse.result c.is_collapse.ensures true c.if-is_collapse.true) (before g here) c.go_over.ensures.records (gone g here after c.go_over.ensures.over) c.word_at.ensures
           (subst (λ entry. GoesTo c.loop-step.frames c.take_step.new.frames (λ j v. followed program (lane j c.args.faults.now) entry (lane_bit j c.word_at.result) (listed_of c.args.program.now c.in-Some.step) v)) c.replaced-replaced.ensures c.take_step.ensures);
+      still = λ is. cc;
     }
 
-pub take_other-requires-clause-room : goal.take_other-requires-clause-room
-take_other-requires-clause-room g c =
-    let here = (goal.at.take_other-requires-clause-room g c).In-Some in
+pub take_step-requires-then-not-is_quiet-clause-room : goal.take_step-requires-then-not-is_quiet-clause-room
+take_step-requires-then-not-is_quiet-clause-room g c =
+    let here = (goal.at.take_step-requires-then-not-is_quiet-clause-room g c).In-Some in
     omega (arith, c.requires.room, c.loop-step.invariant.room, beside-room c.args.program.now.listing c.loop-step.reference c.args.faults.now c.args.coins.now (listed_of c.args.program.now c.in-Some.step) (drop c.next_step.new.self.place c.args.program.now.listing.steps) c.loop-step.collapse c.loop-step.frames (count g here) (before g here))
+
+pub loop-step-smaller-then-not-is_quiet : goal.loop-step-smaller-then-not-is_quiet
+loop-step-smaller-then-not-is_quiet g c = (over g (goal.at.loop-step-smaller-then-not-is_quiet g c).In-Some).smaller
+
+pub loop-step-preserved-then-not-is_quiet : goal.loop-step-preserved-then-not-is_quiet
+loop-step-preserved-then-not-is_quiet g c =
+    let here = (goal.at.loop-step-preserved-then-not-is_quiet g c).In-Some in
+    let walked = over g here in
+    let program = c.args.program.now.listing in
+    let after = c.go_over.new.self in
+    record {
+      program = walked.program_is;
+      qubits = c.take_step-then-not-is_quiet.ensures.qubits ∙ c.loop-step.invariant.qubits;
+      room = c.take_step-then-not-is_quiet.ensures.room ∙ c.loop-step.invariant.room;
+      reference = c.go_over.ensures.reference c.loop-step.invariant.reference;
+      records = c.go_over.ensures.records ∙ c.loop-step.invariant.records;
+      beside =
+          beside-other program c.loop-step.reference after c.args.faults.now c.args.coins.now (listed_of c.args.program.now c.in-Some.step) (drop c.next_step.new.self.place program.steps) c.loop-step.collapse 0 c.loop-step.frames c.take_step-then-not-is_quiet.new.frames
+          (fits g here) (collapses g here c.is_collapse.result c.is_collapse.ensures false c.if-is_collapse.false) (before g here) c.go_over.ensures.records (gone g here after c.go_over.ensures.over)
+          c.take_step-then-not-is_quiet.ensures;
+      still = λ is. cc;
+    }
 
 pub loop-step-smaller : goal.loop-step-smaller
 loop-step-smaller g c = (over g (goal.at.loop-step-smaller g c).In-Some).smaller
@@ -125,13 +150,15 @@ loop-step-preserved g c =
     let after = c.go_over.new.self in
     record {
       program = walked.program_is;
-      qubits = c.take_other.ensures.qubits ∙ c.loop-step.invariant.qubits;
-      room = c.take_other.ensures.room ∙ c.loop-step.invariant.room;
+      qubits = c.loop-step.invariant.qubits;
+      room = c.loop-step.invariant.room;
       reference = c.go_over.ensures.reference c.loop-step.invariant.reference;
       records = c.go_over.ensures.records ∙ c.loop-step.invariant.records;
       beside =
-          beside-other program c.loop-step.reference after c.args.faults.now c.args.coins.now (listed_of c.args.program.now c.in-Some.step) (drop c.next_step.new.self.place program.steps) c.loop-step.collapse 0 c.loop-step.frames c.take_other.new.frames
-          (fits g here) (collapses g here c.is_collapse.result c.is_collapse.ensures false c.if-is_collapse.false) (before g here) c.go_over.ensures.records (gone g here after c.go_over.ensures.over) c.take_other.ensures;
+          beside-other program c.loop-step.reference after c.args.faults.now c.args.coins.now (listed_of c.args.program.now c.in-Some.step) (drop c.next_step.new.self.place program.steps) c.loop-step.collapse 0 c.loop-step.frames c.loop-step.frames
+          (fits g here) (collapses g here c.is_collapse.result c.is_collapse.ensures false c.if-is_collapse.false) (before g here) c.go_over.ensures.records (gone g here after c.go_over.ensures.over)
+          (goes_nowhere program c.args.program.now.products c.args.faults.now 0 c.loop-step.still c.in-Some.step c.loop-step.frames (c.is_quiet.ensures c.if-not-is_quiet.false) c.loop-step.invariant.still);
+      still = c.loop-step.invariant.still;
     }
 
 pub returns-clause-runs : goal.returns-clause-runs
