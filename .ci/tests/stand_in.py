@@ -59,6 +59,7 @@ FILES = {
     "crates/base/src/lib.rt": "base\n",
     "crates/base/must-fail/wrong.edit": "file: src/lib.rt\n",
     "crates/base/wrong-bodies/wrong.edit": "file: src/lib.rt\n",
+    "crates/base/more-wrong-bodies/wrong.edit": "file: src/lib.rt\n",
     "crates/low_tests/src/lib.rt": "tests\n",
     "crates/low/src/lib.rt": "low\n",
     "crates/low/src/part.rt": "part\n",

@@ -1,4 +1,5 @@
-"""Tests of the command that runs all tests, with a stand-in for `rt` and tests of two lines in the place of this folder's."""
+"""Tests of the command that runs all tests, with stand-ins for `rt` and for what tries wrong bodies, and tests of two lines in the
+place of this folder's."""
 
 import os
 import re
@@ -28,6 +29,13 @@ if [ -e "$here/says" ]; then cat "$here/says"; else echo '7 passed, 0 failed'; f
 exit 0
 """
 
+# Two of four wrong bodies are refused where a file `proves` asks for it.
+BODIES = """#!/bin/sh
+echo bodies >>"$HERE/calls"
+[ -e "$HERE/proves" ] && { echo '2 passed, 2 failed'; exit 1; }
+echo '4 passed, 0 failed'
+"""
+
 TESTS = """import os, subprocess, unittest
 
 
@@ -53,6 +61,7 @@ class RunsAllTests(Case):
         for name in ("test", "run", "tests/__main__.py"):
             self.copy(f".ci/{name}")
         self.write(f"{self.rt}/rt", RT, mode=0o755)
+        self.write(f"{self.top}/.ci/wrong-bodies", BODIES, mode=0o755)
         self.write(f"{self.top}/.ci/tests/test_few.py", TESTS)
         self.write(f"{self.room}/modules/numpy.py", "")
         os.symlink(sys.executable, f"{self.tools}/python3")
@@ -78,11 +87,12 @@ class RunsAllTests(Case):
     def test_all_pass(self):
         for command in (".ci/test", ".ci/run"):
             with self.subTest(command):
-                ended = self.assert_ends("10 passed, 0 failed", command=command)
+                ended = self.assert_ends("14 passed, 0 failed", command=command)
                 self.assertIn(b"rt: low proved\n7 passed, 0 failed\n", ended.stdout)
                 self.assertIn(b"rt: a note\n", ended.stderr)
-                (called,) = self.calls()
+                called, bodies = self.calls()
                 self.assertRegex(called, r"^ci jobs [1-9][0-9]*$")
+                self.assertEqual(bodies, "bodies")
 
     def test_a_failure_without_the_program_ends_it(self):
         self.ask("fails-alone")
@@ -115,13 +125,18 @@ class RunsAllTests(Case):
         self.ask("builds-nothing")
         self.assert_ends("7 passed, 1 failed")
 
+    def test_a_wrong_body_that_is_proved_ends_it(self):
+        self.ask("proves")
+        ended = self.assert_ends("9 passed, 2 failed")
+        self.assertEqual(len(re.findall(rb"Ran 3 tests", ended.stderr)), 1)
+
     def test_a_failure_with_the_program(self):
         self.ask("fails-with-program")
-        self.assert_ends("9 passed, 1 failed")
+        self.assert_ends("13 passed, 1 failed")
 
     def test_a_test_that_is_skipped_with_the_program_failed(self):
         self.ask("skips")
-        self.assert_ends("9 passed, 1 failed")
+        self.assert_ends("13 passed, 1 failed")
 
     def test_no_tests_failed(self):
         os.remove(f"{self.top}/.ci/tests/test_few.py")

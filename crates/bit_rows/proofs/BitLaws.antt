@@ -3,9 +3,10 @@
 use Rattle.std.proofs.Common.{lit<, lit≤, add-one, ◌≡◌, ◌-◌, ℕ, zero, suc, ◌+◌, ◌*◌, ◌/◌, ◌%◌, ◌^◌, ◌<◌, ◌≤◌, Bool, true, false, not, cond, eqb, ◌&&◌, ◌||◌, min, max, refl, sym, ap, ◌∙◌, arith, bit_and, bit_or, bit_xor, ⊎_elim}
 use Rattle.std.specs.Int.{bit_at, bit_not, w64, trailing_zeros}
 use Rattle.std.specs.Int.RustNames.{count_ones}
-use Rattle.std.proofs.lemmas.Bool.{cases_eq, eq-eqb, ne_eqb}
-use Rattle.std.proofs.lemmas.Nat.{ones_cat, ones_le_self, zero_from_ones, shr_below, one_shl}
-use Rattle.std.proofs.lemmas.Nat.Bits.{bit_at-lt, bit_at_and, bit_at_or, bit_at_not, bit_at_xor, bit_at-suc, bit_at_lowest, bit_at-pow_same, bit_at-pow_other, bit_at_set_same, bit_at_set_other, bit_at_clear_same, bit_at_clear_other, bit_at-zero, same_from_bits_below, shr_and_one, bit_at-trailing_zeros}
+use Rattle.std.proofs.Math.Pow.{pow_mono}
+use Rattle.std.proofs.lemmas.Bool.{cases_eq, cases_lt, eq-eqb, ne_eqb}
+use Rattle.std.proofs.lemmas.Nat.{ones_cat, ones_le_self, zero_from_ones, shr_below, shr-shr, one_shl, pow-add}
+use Rattle.std.proofs.lemmas.Nat.Bits.{bit_at-lt, bit_at_and, bit_at_or, bit_at_not, bit_at_xor, bit_at-suc, bit_at_lowest, bit_at-pow_same, bit_at-pow_other, bit_at_set_same, bit_at_set_other, bit_at_clear_same, bit_at_clear_other, bit_at-zero, same_from_bits_below, shr_and_one, bit_at_ones, bit_at_mask_below, bit_at_mask_above, bit_at-trailing_zeros}
 use Rattle.bit_rows.specs.Rows.{exclusive_or}
 use Rattle.bit_rows.specs.private.Totals.{total}
 use Rattle.bit_rows.specs.private.Words.{bit_of}
@@ -63,6 +64,42 @@ bit_of-zero j = ap (λ v. eqb v 1) (bit_at-zero j)
 pub bit_of_shift : (word j : ℕ) → eqb (bit_and (word / 2 ^ j) 1) 1 ≡ bit_of word j
 unfolding bit_of
 bit_of_shift word j = ap (λ v. eqb v 1) (shr_and_one word j)
+
+-- `word >> j`
+pub bit_of_later : (word j k : ℕ) → bit_of (word / 2 ^ j) k ≡ bit_of word (j + k)
+unfolding bit_of
+bit_of_later word j k =
+    ap (λ v. eqb v 1) (sym (shr_and_one (word / 2 ^ j) k) ∙ ap (λ v. bit_and v 1) (shr-shr word j k) ∙ shr_and_one word (j + k))
+
+one_of_four : (k : ℕ) → k < 4 → bit_of 15 k ≡ true
+unfolding bit_of
+one_of_four k h = ap (λ v. eqb v 1) (bit_at_ones 4 k h)
+
+-- the ones of `15 << n`
+pub four_ones : (n k : ℕ) → n ≤ 60 → bit_of (15 * 2 ^ n % 2 ^ 64) k ≡ true → (n ≤ k) × (k < n + 4)
+unfolding bit_of
+four_ones n k h set =
+    let small : 2 ^ n ≤ 2 ^ 60 = pow_mono h in
+    let next : 2 ^ (n + 4) ≡ 2 ^ n * 16 = pow-add 2 n 4 in
+    let mask : 15 * 2 ^ n % 2 ^ 64 ≡ 2 ^ (n + 4) - 2 ^ n = omega (arith, small, next) in
+    let none : bit_at (2 ^ (n + 4) - 2 ^ n) k ≡ 0 → ⊥ = λ e. let c : true ≡ false = sym set ∙ ap (λ v. eqb (bit_at v k) 1) mask ∙ ap (λ v. eqb v 1) e in cc in
+    ⊎_elim
+    (λ (low : k < n). absurd (none (bit_at_mask_below n (n + 4) k low)))
+    (λ (from : n ≤ k).
+    ⊎_elim
+    (λ (below : k < n + 4). (from, below))
+    (λ (high : n + 4 ≤ k). absurd (none (bit_at_mask_above n (n + 4) k high)))
+    (cases_lt k (n + 4)))
+    (cases_lt k n)
+
+-- where `word & 15` is 0, so are the four lowest bits
+pub none_of_four : (word k : ℕ) → k < 4 → bit_and word 15 ≡ 0 → bit_of word k ≡ false
+none_of_four word k h none =
+    and_with_true (bit_of word k) (bit_of 15 k) (one_of_four k h) (sym (bit_of-and word 15 k) ∙ ap (λ v. bit_of v k) none ∙ bit_of-zero k)
+  where
+    and_with_true : (a b : Bool) → b ≡ true → (a && b) ≡ false → a ≡ false
+    and_with_true true b e n = sym e ∙ n
+    and_with_true false b e n = refl
 
 -- a word below 2 ^ 64 whose 64 bits are 0 is 0
 pub zero_from_bits : (word : ℕ) → word < 2 ^ 64 → ((j : ℕ) → j < 64 → bit_of word j ≡ false) → word ≡ 0

@@ -17,7 +17,7 @@ module _ (places marks : ℕ) (items : List ℕ) (row : List Bool) (kept : Keeps
 
   module _ (slice new : List ℕ) (len : ℕ) (b : Bool) (e : slice ≡ items) (long : length slice ≡ len) (as_long : length new ≡ length slice)
       (put : (k : ℕ) → bit_in new k ≡ cond (eqb k i) b (bit_in slice k)) where
-    pub put_keeps : (marks' : ℕ) → ((n : ℕ) → n < 64 → bit_of marks' n ≡ cond (eqb n (i / 256)) true (bit_of marks n)) → KeepsRow places marks' (take len (new ++ drop (length new) items))
+    pub put_keeps : (marks' : ℕ) → ((n : ℕ) → n < 64 → bit_of marks' n ≡ cond (eqb n (i / 64)) true (bit_of marks n)) → KeepsRow places marks' (take len (new ++ drop (length new) items))
     put_keeps marks' more =
         rewritten (KeepsRow places marks') len slice new items long as_long (record {
           held = held_after_put places slice new i b (held_by_slice _ _ _ _ refl e kept.held) as_long inside put;

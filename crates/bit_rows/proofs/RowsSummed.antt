@@ -1,5 +1,5 @@
 -- A row that another of its length is added to, by way of the slices that their words are lent as.
-use Rattle.std.proofs.Common.{◌≡◌, ◌⊎◌, ℕ, ◌/◌, ◌<◌, ◌++◌, Bool, true, false, List, length, take, drop, get_or, refl, ap, ◌∙◌, arith, bit_xor}
+use Rattle.std.proofs.Common.{◌≡◌, ◌⊎◌, ℕ, ◌<◌, ◌++◌, Bool, true, false, List, length, take, drop, get_or, refl, ap, ◌∙◌, arith, bit_xor}
 use Rattle.bit_rows.specs.Rows.{xor_rows}
 use Rattle.bit_rows.specs.private.Marks.{KeepsRow, MarksOnes}
 use Rattle.bit_rows.specs.private.Words.{bit_of, row_of}
@@ -29,8 +29,8 @@ module _ (places marks : ℕ) (items : List ℕ) (row : List Bool) (kept : Keeps
     either_keeps marks'' both =
         keeps marks'' (marked_after_xor marks marks' marks'' slice other new (marked_by_slice _ _ _ e kept.marked) (marked_by_slice _ _ _ f kept'.marked) each both)
 
-    -- but for blocks that are noted as blank
-    pub noted_keeps : (noted marks'' : ℕ) → ((k : ℕ) → k / 4 < 64 → bit_of noted (k / 4) ≡ true → get_or new k 0 ≡ 0)
+    -- but for words that are noted as blank
+    pub noted_keeps : (noted marks'' : ℕ) → ((k : ℕ) → k < 64 → bit_of noted k ≡ true → get_or new k 0 ≡ 0)
         → ((b : ℕ) → b < 64 → bit_of marks'' b ≡ false → (bit_of noted b ≡ true) ⊎ ((bit_of marks b ≡ false) × (bit_of marks' b ≡ false))) → KeepsRow places marks'' (take len (new ++ drop (length new) items))
     noted_keeps noted marks'' blank left =
         keeps marks'' (marked_after_sum marks marks' noted marks'' slice other new (marked_by_slice _ _ _ e kept.marked) (marked_by_slice _ _ _ f kept'.marked) each blank left)

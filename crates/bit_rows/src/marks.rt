@@ -1,60 +1,74 @@
-// Marks of a list of words: one bit for each of the first 64 blocks of four words, set where the block may have ones.
-ghost use Rattle.std.specs.Prelude.{◌≡◌, ◌==◌, ◌⊎◌, ◌<◌, ℕ, true, false, if◌then◌else◌};
+// Marks of a list of words: one bit for each of the first 64 words, set where the word may have ones. A block is four words.
+ghost use Rattle.std.specs.Prelude.{◌≡◌, ◌==◌, ◌⊎◌, ◌<◌, ◌+◌, ◌*◌, ◌/◌, ℕ, true, false, if◌then◌else◌};
 ghost use Rattle.bit_rows.specs.private.Words.{bit_of};
+
+// Whether a word is known to have no ones.
+#[inline(always)]
+pub(crate) fn is_unmarked(marks: u64, word: usize) -> bool
+    ensures { result ≡ true → (word < 64) × (bit_of marks word ≡ false) }
+{
+    if word >= 64 {
+        return false;
+    }
+    !((marks >> word) & 1 == 1)
+}
 
 // Whether a block is known to have no ones.
 #[inline(always)]
-pub(crate) fn is_unmarked(marks: u64, block: usize) -> bool
-    ensures { result ≡ true → (block < 64) × (bit_of marks block ≡ false) }
+pub(crate) fn is_block_unmarked(marks: u64, block: usize) -> bool
+    ensures { result ≡ true
+        → (k : ℕ)
+        → k < 4
+        → (block * 4 + k < 64) × (bit_of marks (block * 4 + k) ≡ false) }
 {
-    if block >= 64 {
+    if block >= 16 {
         return false;
     }
-    !((marks >> block) & 1 == 1)
+    (marks >> (block * 4)) & 15 == 0
 }
 
-// Sets the mark of a block, where it has one.
+// Sets the mark of a word, where it has one.
 #[inline(always)]
-pub(crate) fn mark(marks: u64, block: usize) -> u64
-    ensures { (b : ℕ) → b < 64 → bit_of result b ≡ (if b == block then true else bit_of marks b) }
+pub(crate) fn mark(marks: u64, word: usize) -> u64
+    ensures { (w : ℕ) → w < 64 → bit_of result w ≡ (if w == word then true else bit_of marks w) }
 {
-    if block >= 64 {
+    if word >= 64 {
         return marks;
     }
-    marks | 1u64 << block
+    marks | 1u64 << word
 }
 
-// Sets the mark of a block where a condition holds.
+// Sets the marks of a block where a condition holds.
 #[inline(always)]
-pub(crate) fn mark_where(marks: u64, block: usize, condition: bool) -> u64
-    ensures { (b : ℕ)
-        → b < 64
-        → bit_of result b ≡ true
-        → (bit_of marks b ≡ true) ⊎ ((b ≡ block) × (condition ≡ true)) }
+pub(crate) fn mark_block_where(marks: u64, block: usize, condition: bool) -> u64
+    ensures { (w : ℕ)
+        → w < 64
+        → bit_of result w ≡ true
+        → (bit_of marks w ≡ true) ⊎ ((w / 4 ≡ block) × (condition ≡ true)) }
 {
-    if condition {
-        return mark(marks, block);
+    if block >= 16 || !condition {
+        return marks;
     }
-    marks
+    marks | 15u64 << (block * 4)
 }
 
 // The marks that either of two lists has.
 #[inline(always)]
 pub(crate) fn either(first: u64, second: u64) -> u64
-    ensures { (b : ℕ)
-        → bit_of result b ≡ false
-        → (bit_of first b ≡ false) × (bit_of second b ≡ false) }
+    ensures { (w : ℕ)
+        → bit_of result w ≡ false
+        → (bit_of first w ≡ false) × (bit_of second w ≡ false) }
 {
     first | second
 }
 
-// Marks of the exclusive or of two lists, whose noted blocks are known to be blank.
+// Marks of the exclusive or of two lists, whose noted words are known to be 0.
 #[inline(always)]
 pub(crate) fn marks_of_sum(first: u64, second: u64, noted: u64) -> u64
-    ensures { (b : ℕ)
-        → b < 64
-        → bit_of result b ≡ false
-        → (bit_of noted b ≡ true) ⊎ ((bit_of first b ≡ false) × (bit_of second b ≡ false)) }
+    ensures { (w : ℕ)
+        → w < 64
+        → bit_of result w ≡ false
+        → (bit_of noted w ≡ true) ⊎ ((bit_of first w ≡ false) × (bit_of second w ≡ false)) }
 {
     (first | second) & !noted
 }

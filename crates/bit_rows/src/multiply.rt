@@ -7,11 +7,11 @@ ghost use Rattle.bit_rows.specs.private.Multiplied.{HaveOneLength, MarksBoth, Mu
 ghost use Rattle.bit_rows.specs.private.Spans.{XorsWithin};
 ghost use Rattle.bit_rows.specs.private.WordTotals.{carried, word_phase};
 
-use crate::marks::{is_unmarked, mark_where};
+use crate::marks::{is_block_unmarked, mark_block_where};
 use crate::phase::{carry, carry_block, join_lanes, power_held};
 use std::simd::prelude::*;
 
-// Answers the power of i and, as bits, blocks that are known to have no letter left.
+// Answers the power of i and, as bits, words that are known to have no letter left.
 #[inline(always)]
 pub(crate) fn multiply_words(
     xa: &mut [u64],
@@ -66,7 +66,7 @@ fn multiply_many(xa: &mut [u64], za: &mut [u64], xb: &[u64], zb: &[u64], marks: 
     ((power_held(ones, twos) % 4) as u8, noted)
 }
 
-// The whole blocks of four words: answers the carry words after them, and the blocks without letters as above.
+// The whole blocks of four words: answers the carry words after them, and the words without letters as above.
 fn multiply_blocks(
     xa: &mut [u64],
     za: &mut [u64],
@@ -80,7 +80,7 @@ fn multiply_blocks(
         (carried result.0 result.1) (length xb.now / 4 * 4) }
     ensures blank { BlanksBelow result.2 xa.new za.new (length xb.now / 4 * 4) }
 {
-    if marks.trailing_ones() as usize >= xb.len() / 4 {
+    if marks.trailing_ones() as usize >= xb.len() / 4 * 4 {
         let (ones, twos) = multiply_all(xa, za, xb, zb);
         return (ones, twos, 0);
     }
@@ -93,13 +93,13 @@ fn multiply_blocks(
         );
         ones = next_ones;
         twos = next_twos;
-        noted = mark_where(noted, block, emptied);
+        noted = mark_block_where(noted, block, emptied);
     }
     let (one, two) = join_lanes(&ones.to_array(), &twos.to_array());
     (one, two, noted)
 }
 
-// The same where every block may have letters: no mark is looked at, and no block is noted as empty.
+// The same where every word may have letters: no mark is looked at, and no word is noted as empty.
 fn multiply_all(xa: &mut [u64], za: &mut [u64], xb: &[u64], zb: &[u64]) -> (u64, u64)
     requires { HaveOneLength xa.old za.old xb.now zb.now }
     ensures { MultipliesFirst xa.old za.old xb.now zb.now xa.new za.new
@@ -142,7 +142,7 @@ fn multiply_block(
         → k < 4
         → (slice_index xa.new (block * 4 + k) ≡ 0) × (slice_index za.new (block * 4 + k) ≡ 0) }
 {
-    let unmarked = is_unmarked(marks, block);
+    let unmarked = is_block_unmarked(marks, block);
     if unmarked {
         return (ones, twos, false);
     }

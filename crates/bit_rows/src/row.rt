@@ -18,7 +18,7 @@ use std::marker::Model;
 pub struct BitRow<A: Allocator + Copy> {
     words: Vec<u64, A>,
     places: usize,
-    // the blocks of words that may have ones
+    // the words that may have ones
     marks: u64,
 }
 
@@ -79,7 +79,7 @@ impl<A: Allocator + Copy> BitRow<A> {
         requires { i < length self.now }
         ensures { result ≡ slice_index_or self.now i false }
     {
-        let unmarked = is_unmarked(self.marks, i / 256);
+        let unmarked = is_unmarked(self.marks, i / 64);
         if unmarked {
             return false;
         }
@@ -94,7 +94,7 @@ impl<A: Allocator + Copy> BitRow<A> {
         ensures first { result.0 ≡ slice_index_or first.now i false }
         ensures second { result.1 ≡ slice_index_or second.now i false }
     {
-        let unmarked = is_unmarked(either(first.marks, second.marks), i / 256);
+        let unmarked = is_unmarked(either(first.marks, second.marks), i / 64);
         if unmarked {
             return (false, false);
         }
@@ -111,7 +111,7 @@ impl<A: Allocator + Copy> BitRow<A> {
         ensures { self.new ≡ slice_set self.old i b }
     {
         put_bit(self.words.as_mut_slice(), i, b);
-        self.marks = mark(self.marks, i / 256);
+        self.marks = mark(self.marks, i / 64);
     }
 
     /// Flips the bit at a place.
@@ -120,7 +120,7 @@ impl<A: Allocator + Copy> BitRow<A> {
         ensures { self.new ≡ slice_set self.old i (not (slice_index_or self.old i false)) }
     {
         flip_bit(self.words.as_mut_slice(), i);
-        self.marks = mark(self.marks, i / 256);
+        self.marks = mark(self.marks, i / 64);
     }
 
     /// Exchanges two rows of any lengths.

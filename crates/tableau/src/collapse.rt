@@ -154,8 +154,35 @@ fn measured_at<A: Allocator + Copy>(word: &Word<A>, only: Option<usize>, qubit: 
     word.letter(qubit)
 }
 
+// Few qubits are measured. For the others the letter stands as a constant, so that the compiler leaves out what depends on it.
 #[inline(always)]
 fn turn_pair<A: Allocator + Copy>(
+    pair: &mut Pair<A>,
+    code: &Pair<A>,
+    letter: Letter,
+    qubit: usize,
+    measured: Letter,
+)
+    requires pivot { IsPivot (length code.now.0.letters) qubit code.now }
+    requires size { HasLength (length code.now.0.letters) pair.old }
+    requires clashes { ClashesAt measured letter qubit code.now.0 pair.old }
+    ensures { pair.new
+        ≡ (
+          image_at (turning_gate letter) qubit
+              (twisted (lone (length code.now.0.letters) qubit Z) code.now.0 pair.old.0),
+          image_at
+              (turning_gate letter) qubit
+              (twisted (lone (length code.now.0.letters) qubit Z) code.now.0 pair.old.1),
+        ) }
+{
+    match measured {
+        Letter::I => turn_both(pair, code, letter, qubit, Letter::I),
+        other => turn_both(pair, code, letter, qubit, other),
+    }
+}
+
+#[inline(always)]
+fn turn_both<A: Allocator + Copy>(
     pair: &mut Pair<A>,
     code: &Pair<A>,
     letter: Letter,

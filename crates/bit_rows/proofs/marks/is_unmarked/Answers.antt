@@ -4,4 +4,4 @@ use Rattle.bit_rows.proofs.BitLaws.{bit_of_shift}
 use Rattle.bit_rows.proofs.marks.is_unmarked.Goals as goal
 
 pub returns : goal.returns
-returns c = λ yes. (omega (arith, c.if-block-ge64.false), sym (bit_of_shift c.args.marks c.args.block) ∙ not-true _ yes)
+returns c = λ yes. (omega (arith, c.if-word-ge64.false), sym (bit_of_shift c.args.marks c.args.word) ∙ not-true _ yes)

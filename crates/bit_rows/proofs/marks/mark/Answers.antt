@@ -4,8 +4,8 @@ use Rattle.bit_rows.specs.private.Words.{bit_of}
 use Rattle.bit_rows.proofs.BitLaws.{bit_of_put}
 use Rattle.bit_rows.proofs.marks.mark.Goals as goal
 
-pub returns-then-block-ge64 : goal.returns-then-block-ge64
-returns-then-block-ge64 c = λ b h. sym (ap (λ t. cond t true (bit_of c.args.marks b)) (ne_eqb b c.args.block (λ e. omega (arith, e, h, c.if-block-ge64.true))))
+pub returns-then-word-ge64 : goal.returns-then-word-ge64
+returns-then-word-ge64 c = λ b h. sym (ap (λ t. cond t true (bit_of c.args.marks b)) (ne_eqb b c.args.word (λ e. omega (arith, e, h, c.if-word-ge64.true))))
 
 pub returns : goal.returns
-returns c = λ b h. bit_of_put c.args.marks c.args.block b (omega (arith, c.if-block-ge64.false))
+returns c = λ b h. bit_of_put c.args.marks c.args.word b (omega (arith, c.if-word-ge64.false))

@@ -24,8 +24,8 @@ loop-block-preserved c =
           block_multiplied c.args.xa.now c.args.za.now c.args.xb.now c.args.zb.now c.loop-block.xa c.loop-block.za made.new.xa made.new.za c.loop-block.ones c.loop-block.twos _ _ c.loop-block.block
           c.loop-block.invariant.product made.ensures.power made.ensures.x made.ensures.z;
       blank =
-          blanks_more c.loop-block.noted c.mark_where-noted.result c.loop-block.xa c.loop-block.za made.new.xa made.new.za c.args.xb.now c.args.zb.now c.loop-block.block
-          made.result.2 c.loop-block.invariant.blank made.ensures.x made.ensures.z made.ensures.emptied c.mark_where-noted.ensures;
+          blanks_more c.loop-block.noted c.mark_block_where-noted.result c.loop-block.xa c.loop-block.za made.new.xa made.new.za c.args.xb.now c.args.zb.now c.loop-block.block
+          made.result.2 c.loop-block.invariant.blank made.ensures.x made.ensures.z made.ensures.emptied c.mark_block_where-noted.ensures;
     }
 
 pub returns-clause-product : goal.returns-clause-product

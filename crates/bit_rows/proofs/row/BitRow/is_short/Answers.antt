@@ -1,4 +1,4 @@
-use Rattle.std.proofs.Common.{ℕ, ◌+◌, ◌/◌, ◌≤◌, ◌≡◌, ◌∙◌, length, ap, leb-true, le-leb, arith}
+use Rattle.std.proofs.Common.{ℕ, ◌≤◌, ◌≡◌, ◌∙◌, length, ap, leb-true, le-leb, arith}
 use Rattle.bit_rows.specs.private.Words.{words_for}
 use Rattle.bit_rows.proofs.Places.{row_long}
 use Rattle.bit_rows.proofs.row.BitRow.is_short.Goals as goal
