@@ -2,6 +2,7 @@
 use Rattle.std.proofs.Common.{◌≡◌, ◌≢◌, ◌<◌, ◌&&◌, ◌+◌, ℕ, zero, suc, true, false, List, [], ◌∷◌, length, set, get_or, refl, ap, ap₂, sym, subst, ◌∙◌, length-set, get_or-set_same, get_or-set_other, set-set}
 use Rattle.std.proofs.lemmas.List.{length-replicate, get_or_default}
 use Rattle.gate_table.specs.declared.gate.Gate.{Gate}
+use Rattle.gate_table.specs.declared.gate.Gate.TheVariants.{Swap}
 use Rattle.gate_table.specs.Images.{image1, image2, inverse_of}
 use Rattle.gate_table.specs.WordImages.{preimage_at, preimage_at_two}
 use Rattle.gate_table.proofs.WordImageLaws.{letter_at-none}
@@ -14,10 +15,10 @@ use Rattle.pauli_word.specs.Groups.{identity_word}
 use Rattle.pauli_word.proofs.LetterLaws.{letters_clash_comm, letters_clash_of_I}
 use Rattle.pauli_word.proofs.LoneLetters.{length-lone_letter, anticommute-lone_letter}
 use Rattle.pauli_word.proofs.Parities.{exclusive_or-false}
-use Rattle.pauli_word.proofs.SignedLaws.{product-sign_changed_right}
+use Rattle.pauli_word.proofs.SignedLaws.{product-sign_changed_right, product_of_identity}
 use Rattle.pauli_word.proofs.WordLaws.{anticommute_comm}
 use Rattle.tableau.specs.private.Encoding.{Pair, word_of, encoded, pair_at, IsTableau, HasLength}
-use Rattle.tableau.specs.private.EncodingSteps.{lone, code_of, preimage_word, preimage_product, pair_under}
+use Rattle.tableau.specs.private.EncodingSteps.{lone, code_of, preimage_word, preimage_product, pair_under, after_two}
 use Rattle.tableau.proofs.FirstLetters.{first_letters, length-first, first-next, first-one_more, product-lone}
 use Rattle.tableau.proofs.RowMaps.{products_kept, kept_sign, row_encoded, word_of_size}
 use Rattle.tableau.proofs.Turns.{regrouped, times_identity}
@@ -194,3 +195,14 @@ module _ (rows : List Pair) (is : IsTableau (length rows) rows) where
 
       pub two_commute : (x : Letter) → anticommute (word_of m r x).letters s.1.letters ≡ false
       two_commute x = pairs_commute x Z
+
+-- SWAP exchanges two pairs
+pub exchanged : (rows : List Pair) → IsTableau (length rows) rows → (a b : ℕ) → a < length rows → b < length rows → a ≢ b → (r s : Pair) → r ≡ get_or rows a r → s ≡ get_or rows b s
+    → set (set rows a s) b r ≡ after_two (length rows) Swap a b rows
+exchanged rows is a b a_in b_in ne r s r_is s_is =
+    let n = length rows in
+    let r_size = pair_size rows is a r a_in r_is in
+    let s_size = pair_size rows is b s b_in s_is in
+    ap₂ (λ x y. set (set rows a x) b y)
+    (first_made rows is Swap a b a_in b_in ne r s r_is s_is n refl s (ap₂ (λ x z. (x, z)) (sym (product_of_identity n s.0 s_size.x)) (sym (product_of_identity n s.1 s_size.z))))
+    (second_made rows is Swap a b a_in b_in ne r s r_is s_is n refl r (ap₂ (λ x z. (x, z)) (sym (times_identity n r.0 r_size.x)) (sym (times_identity n r.1 r_size.z))))

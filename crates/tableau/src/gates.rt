@@ -77,8 +77,8 @@ fn set_preimages<A: Allocator + Copy>(new: &mut Pair<A>, pair: &Pair<A>, gate: G
     set_word(&mut new.1, pair, z, z_minus);
 }
 
-/// Applies a two-qubit gate. One that isn't controlled makes all four words anew, in `first` and `second`. What it leaves
-/// there is of no use.
+/// Applies a two-qubit gate. SWAP exchanges two pairs, and a gate that isn't controlled makes all four words anew, in `first`
+/// and `second`. What it leaves there is of no use.
 pub(crate) fn apply_two<A: Allocator + Copy>(
     rows: &mut Vec<Pair<A>, A>,
     first: &mut Pair<A>,
@@ -98,6 +98,10 @@ pub(crate) fn apply_two<A: Allocator + Copy>(
     ensures first { HasLength (length rows.old.items) first.new }
     ensures second { HasLength (length rows.old.items) second.new }
 {
+    if let Gate::Swap = gate {
+        rows.as_mut_slice().swap(a, b);
+        return;
+    }
     if let Some(letters) = controlled_letters(gate) {
         apply_controlled(rows.as_mut_slice(), letters.0, letters.1, a, b);
         return;

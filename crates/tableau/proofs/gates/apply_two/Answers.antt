@@ -1,10 +1,13 @@
-use Rattle.std.proofs.Common.{◌<◌, length, drop, set, ap, ap₂, sym, subst, ◌∙◌, get_or-set_other}
+use Rattle.std.proofs.Common.{◌<◌, length, drop, get_or, set, ap, ap₂, sym, subst, ◌∙◌, get_or-set_other}
+use Rattle.std.proofs.lemmas.List.{get_or_default}
 use Rattle.pauli_word.specs.declared.letter.Letter.TheVariants.{I, X, Z}
 use Rattle.tableau.specs.private.ControlledSteps.{CanControl, after_controlled}
-use Rattle.tableau.specs.private.Encoding.{HasLength}
+use Rattle.pauli_word.specs.Groups.{identity_word}
+use Rattle.tableau.specs.private.Encoding.{Pair, HasLength}
+use Rattle.tableau.specs.private.EncodingSteps.{after_two}
 use Rattle.tableau.proofs.ControlledRows.{controlled_rows, written_back}
 use Rattle.tableau.proofs.NewSizes.{two_size}
-use Rattle.tableau.proofs.PairWords.{pair_size, first_made, second_made, two_commute}
+use Rattle.tableau.proofs.PairWords.{pair_size, first_made, second_made, two_commute, exchanged}
 use Rattle.tableau.proofs.gates.apply_two.Given.{Over}
 use Rattle.tableau.proofs.gates.apply_two.Goals as goal
 use Rattle.tableau.proofs.gates.apply_two.Goals.{After-index_mut-2, After-set_products-2}
@@ -115,7 +118,7 @@ returns-clause-second g c = second_long g (goal.at.returns-clause-second g c).Af
 
 pub apply_controlled-requires : goal.apply_controlled-requires
 apply_controlled-requires g c =
-    subst (CanControl c.in-Some.letters.0 c.args.a c.args.b) (sym c.as_mut_slice.ensures.value)
+    subst (CanControl c.in-Some.letters.0 c.args.a c.args.b) (sym c.as_mut_slice-in-Some.ensures.value)
     (record { own = c.in-Some.ensures.own; first_inside = c.requires.first_inside; second_inside = c.requires.second_inside; differ = c.requires.differ; tableau = c.requires.tableau })
 
 pub returns-in-Some-clause-first : goal.returns-in-Some-clause-first
@@ -128,8 +131,22 @@ pub returns-in-Some-clause-rows : goal.returns-in-Some-clause-rows
 returns-in-Some-clause-rows g c =
     let rows = c.args.rows.now.items in
     let new = c.apply_controlled.new.rows in
-    written_back new (drop (length new) rows) c.args.rows.now.len (c.apply_controlled.auto.rows ∙ c.as_mut_slice.ensures.len)
+    written_back new (drop (length new) rows) c.args.rows.now.len (c.apply_controlled.auto.rows ∙ c.as_mut_slice-in-Some.ensures.len)
     ∙ (c.apply_controlled.ensures
-    ∙ (ap (after_controlled c.in-Some.letters.0 c.in-Some.letters.1 c.args.a c.args.b) c.as_mut_slice.ensures.value
+    ∙ (ap (after_controlled c.in-Some.letters.0 c.in-Some.letters.1 c.args.a c.args.b) c.as_mut_slice-in-Some.ensures.value
     ∙ controlled_rows rows c.requires.tableau c.args.gate c.in-Some.letters.0 c.in-Some.letters.1 c.in-Some.ensures
     c.args.a c.args.b c.requires.first_inside c.requires.second_inside c.requires.differ))
+
+pub returns-in-Swap-clause-rows : goal.returns-in-Swap-clause-rows
+returns-in-Swap-clause-rows g c =
+    let rows = c.args.rows.now.items in
+    let new = c.swap.new.self in
+    let a = c.args.a in
+    let b = c.args.b in
+    let none : Pair = (identity_word (length rows), identity_word (length rows)) in
+    written_back new (drop (length new) rows) c.args.rows.now.len (c.swap.ensures.len ∙ c.as_mut_slice.ensures.len)
+    ∙ (c.swap.ensures.by_index.3 none
+    ∙ (ap (λ l. set (set l a (get_or l b none)) b (get_or l a none)) c.as_mut_slice.ensures.value
+    ∙ (exchanged rows c.requires.tableau a b c.requires.first_inside c.requires.second_inside c.requires.differ (get_or rows a none) (get_or rows b none)
+    (get_or_default rows a none (get_or rows a none) c.requires.first_inside) (get_or_default rows b none (get_or rows b none) c.requires.second_inside)
+    ∙ sym (ap (λ g. after_two (length rows) g a b rows) c.in-Swap.is))))
