@@ -125,6 +125,13 @@ class TriesWrongBodies(Case):
         self.assert_ends("2 passed, 0 failed")
         self.assertEqual(self.checks, ["low first"] * 2)
 
+    def test_bodies_of_one_text_are_tried_apart(self):
+        self.edit("first", "wrong")
+        text = "file: src/part.rt\nold: fn first() { right }\nnew: fn first() { wrong }\nrefused: part::third\n"
+        self.write(f"{self.top}/crates/low/wrong-bodies/third.edit", text)
+        self.assert_ends("1 passed, 1 failed")
+        self.assertEqual(self.checks, ["low first", "low third"])
+
     def test_a_body_hidden_by_another_is_tried_again(self):
         self.edit("first", "wrong")
         self.edit("third", "open first")
