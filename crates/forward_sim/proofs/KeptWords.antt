@@ -1,4 +1,4 @@
--- The letters X and Z of a word, as terms, make the word; and those of the destabilizer of a row that a collapse names are
+-- The letters X and Z of a word, as terms, make the word; and those of the stabilizer that a collapse may replace are
 -- what is kept of the collapse.
 use Rattle.std.proofs.Common.{◌≡◌, ℕ, zero, suc, ◌+◌, ◌<◌, Bool, true, false, List, [], ◌∷◌, ◌++◌, length, set, Option, Some, None, refl, sym, ap, ap₂, subst, ◌∙◌, arith, append-nil}
 use Rattle.std.specs.Prelude.{IfSome, if◌then◌else◌, map}
@@ -9,7 +9,7 @@ use Rattle.pauli_word.specs.declared.letter.Letter.{Letter}
 use Rattle.pauli_word.specs.declared.letter.Letter.TheVariants.{I, X, Y, Z}
 use Rattle.pauli_word.specs.Letters.{letter_product, letters_clash}
 use Rattle.pauli_word.specs.States.{State}
-use Rattle.pauli_word.specs.Words.{signed, anticommute, letter_at, letters_product, lone_letter, no_letters}
+use Rattle.pauli_word.specs.Words.{letter_at, letters_product, lone_letter, no_letters}
 use Rattle.pauli_word.proofs.LetterLaws.{letter_product-I}
 use Rattle.pauli_word.proofs.LoneLetters.{letters_product-lone_letter, letters_product_of_no_letters}
 use Rattle.pauli_word.proofs.WordLaws.{letters_product_assoc, anticommute_comm, anticommute_of_none}
@@ -17,8 +17,8 @@ use Rattle.step_model.specs.declared.step.Term.{Term}
 use Rattle.step_model.specs.Listing.{word_of_terms}
 use Rattle.step_model.specs.WellFormed.{TermsFit}
 use Rattle.step_model.proofs.StepNumbers.{length-word_of_terms}
-use Rattle.tableau.specs.Rows.{Rows, row_count, state_of, stabilizer_at, destabilizer_at, IsCollapsed}
-use Rattle.forward_sim.specs.private.Kept.{clashing, terms_of_word, entry_for, NamesRow}
+use Rattle.tableau.specs.Rows.{Rows, row_count, state_of, stabilizer_at, NamesRandom}
+use Rattle.forward_sim.specs.private.Kept.{clashing, terms_of_word, entry_for}
 use Rattle.forward_sim.specs.References.{entry_of, terms_at, IsEntry, IsReplacing}
 
 -- one letter behind q letters I
@@ -118,20 +118,10 @@ terms_fit n w h =
     All-append (λ (term : Term). term.qubit < n) (terms_at X (clashing Z 0 w)) (terms_at Z (clashing X 0 w))
     (parts_fit Z X 0 w n size) (parts_fit X Z 0 w n size)
 
--- the row that a collapse names
-pub names_row : (old new : Rows) (w : List Letter) (coin seen : Bool) (row : Option ℕ) → IsCollapsed old new w coin seen row → NamesRow old new w row
-names_row old new w coin seen None made = made.decided
-names_row old new w coin seen (Some row) made =
-    let v = stabilizer_at old row in
-    let replaced = made.replaced in
-    let inside : row < row_count new = omega (arith, replaced.inside, made.len) in (
-      inside,
-      record {
-        random = made.random;
-        in_state = (v.negative, ap (λ letters. state_of old (signed letters v.negative)) replaced.becomes_destabilizer ∙ replaced.was_in_state);
-        anticommutes = ap (anticommute w) replaced.becomes_destabilizer ∙ replaced.anticommuted;
-      },
-    )
+-- the row whose stabilizer a collapse may replace
+pub row_inside : (rows : Rows) (w : List Letter) (row : Option ℕ) → NamesRandom rows w row → IfSome row (λ r. r < row_count rows)
+row_inside rows w None named = tt
+row_inside rows w (Some row) named = named.inside
 
 -- a list that makes a word which anticommutes with another isn't empty
 entry_is : (n : ℕ) (s : State) (w : List Letter) (terms : List Term) → TermsFit n terms → IsReplacing s w (word_of_terms n terms) → IsEntry n s w (entry_of terms)
@@ -139,17 +129,16 @@ entry_is n s w [] fit replacing =
     absurd (false≢true (sym (anticommute_of_none n w) ∙ anticommute_comm (no_letters n) w ∙ replacing.anticommutes))
 entry_is n s w (term ∷ terms) fit replacing = (fit, replacing)
 
--- what is kept of a collapse that names a row
-row_entry : (n : ℕ) (old new : Rows) (w : List Letter) (row : Option ℕ) → IfSome row (λ r. length (destabilizer_at new r).letters ≡ n) → NamesRow old new w row → IsEntry n (state_of old) w (entry_for new row)
-row_entry n old new w None long named = named
-row_entry n old new w (Some row) long named =
-    let v = (destabilizer_at new row).letters in
-    entry_is n (state_of old) w (terms_of_word v) (terms_fit n v long)
-    (subst (IsReplacing (state_of old) w) (sym (word_of_its_terms n v long)) named.1)
+-- what is kept of a collapse
+row_entry : (n : ℕ) (rows : Rows) (w : List Letter) (row : Option ℕ) → IfSome row (λ r. length (stabilizer_at rows r).letters ≡ n) → NamesRandom rows w row → IsEntry n (state_of rows) w (entry_for rows row)
+row_entry n rows w None long named = named
+row_entry n rows w (Some row) long named =
+    let v = stabilizer_at rows row in
+    entry_is n (state_of rows) w (terms_of_word v.letters) (terms_fit n v.letters long)
+    (subst (IsReplacing (state_of rows) w) (sym (word_of_its_terms n v.letters long))
+    (record { random = named.random; in_state = (v.negative, named.was_in_state); anticommutes = named.anticommuted }))
 
--- and is read from the rows after it, which are as many
-pub kept_entry : (n m : ℕ) (old new : Rows) (w : List Letter) (row : Option ℕ) (entry : Option (List Term)) → m ≡ n → IfSome row (λ r. length (destabilizer_at new r).letters ≡ m) → entry ≡ entry_for new row → NamesRow old new w row
-    → IsEntry n (state_of old) w entry
-kept_entry n m old new w row entry same long read named =
-    subst (IsEntry n (state_of old) w) (sym read)
-    (row_entry n old new w row (subst (λ k. IfSome row (λ r. length (destabilizer_at new r).letters ≡ k)) same long) named)
+-- and is read from the rows before it
+pub kept_entry : (n : ℕ) (rows : Rows) (w : List Letter) (row : Option ℕ) (entry : Option (List Term)) → IfSome row (λ r. length (stabilizer_at rows r).letters ≡ n) → entry ≡ entry_for rows row → NamesRandom rows w row
+    → IsEntry n (state_of rows) w entry
+kept_entry n rows w row entry long read named = subst (IsEntry n (state_of rows) w) (sym read) (row_entry n rows w row long named)

@@ -7,15 +7,15 @@ ghost use Rattle.programs.specs.Listed.{listed};
 ghost use Rattle.step_model.specs.Listing.{word_of_terms};
 ghost use Rattle.step_model.specs.Runs.{after_collapse, next, next_coin};
 ghost use Rattle.step_model.specs.WellFormed.{TermsFit};
-ghost use Rattle.tableau.specs.Rows.{destabilizer_at};
+ghost use Rattle.tableau.specs.Rows.{stabilizer_at};
 ghost use Rattle.forward_sim.specs.References.{entry_of, IsEntry, IsStepEntry};
 ghost use Rattle.forward_sim.specs.private.Kept.{entry_for};
 ghost use Rattle.forward_sim.specs.private.Machines.{CanTake, ComesTo, qubit_count, run_of};
 
 use crate::last_word::LastWord;
-use crate::letters::collapse_letter;
+use crate::letters::{letter_row, measure_letter};
 use crate::machine::Machine;
-use crate::products::collapse_product;
+use crate::products::{measure_product, product_row};
 use crate::steps::{end_collapse, feed_back};
 use pauli_word::Letter;
 use programs::{Program, Step};
@@ -70,7 +70,7 @@ pub(crate) fn follow_step<A: Allocator + Copy>(
     }
 }
 
-// Measures a letter at a qubit, and reads the word that this replaced. Answers the outcome, and records nothing.
+// Measures a letter at a qubit, and reads the word that this replaces. Answers the outcome, and records nothing.
 fn follow_letter<A: Allocator + Copy>(
     machine: &mut Machine<'_, A>,
     word: &mut LastWord<A>,
@@ -89,9 +89,9 @@ fn follow_letter<A: Allocator + Copy>(
     ensures entry { IsEntry (qubit_count machine.old) (run_of machine.old).state
         (lone_letter (qubit_count machine.old) qubit letter) (entry_of word.new.terms) }
 {
-    let (seen, row) = collapse_letter(machine, letter, qubit);
+    let row = letter_row(machine, letter, qubit);
     read_row(machine, word, row);
-    seen
+    measure_letter(machine, letter, qubit)
 }
 
 // The same for a Pauli product.
@@ -112,12 +112,12 @@ fn follow_product<A: Allocator + Copy>(
     ensures entry { IsEntry (qubit_count machine.old) (run_of machine.old).state
         (word_of_terms (qubit_count machine.old) product.now) (entry_of word.new.terms) }
 {
-    let (seen, row) = collapse_product(machine, product);
+    let row = product_row(machine, product);
     read_row(machine, word, row);
-    seen
+    measure_product(machine, product)
 }
 
-// Reads the word that became the destabilizer of the row that was replaced, if one was.
+// Reads the stabilizer that a collapse may replace, if there is one.
 fn read_row<A: Allocator + Copy>(
     machine: &Machine<'_, A>,
     word: &mut LastWord<A>,
@@ -126,7 +126,7 @@ fn read_row<A: Allocator + Copy>(
     requires inside { IfSome row (λ r. r < qubit_count machine.now) }
     requires room { qubit_count machine.now ≤ word.old.room }
     ensures room { word.new.room ≡ word.old.room }
-    ensures long { IfSome row (λ r. length (destabilizer_at machine.now.rows r).letters
+    ensures long { IfSome row (λ r. length (stabilizer_at machine.now.rows r).letters
         ≡ qubit_count machine.now) }
     ensures read { entry_of word.new.terms ≡ entry_for machine.now.rows row }
 {

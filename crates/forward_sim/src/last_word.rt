@@ -1,6 +1,6 @@
 ghost use Rattle.std.specs.Prelude.{◌≡◌, ◌<◌, ◌≤◌, ◌+◌, ◌^◌, ◌++◌, [], length, take, if◌then◌else◌, IfOk};
 ghost use Rattle.pauli_word.specs.declared.letter.Letter.TheVariants.{X, Z};
-ghost use Rattle.tableau.specs.Rows.{row_count, destabilizer_at};
+ghost use Rattle.tableau.specs.Rows.{row_count, stabilizer_at};
 ghost use Rattle.forward_sim.specs.private.Kept.{clashing, terms_listed, terms_of_word};
 
 use pauli_word::Letter;
@@ -59,12 +59,12 @@ impl<A: Allocator + Copy> LastWord<A> {
         self.len = 0;
     }
 
-    /// Reads the destabilizer of a row.
+    /// Reads the stabilizer of a row.
     pub(crate) fn read(&mut self, tableau: &Tableau<A>, row: usize)
         requires row { row < row_count tableau.now }
         requires room { row_count tableau.now ≤ self.old.room }
         ensures room { self.new.room ≡ self.old.room }
-        ensures read { self.new.terms ≡ terms_of_word (destabilizer_at tableau.now row).letters }
+        ensures read { self.new.terms ≡ terms_of_word (stabilizer_at tableau.now row).letters }
     {
         let numbers = self.numbers.as_mut_slice();
         let (xs_end, count) = list_letters(numbers, self.zs.as_mut_slice(), tableau, row);
@@ -81,7 +81,7 @@ impl<A: Allocator + Copy> LastWord<A> {
     }
 }
 
-// Lists the qubits at which the destabilizer of a row clashes with Z, behind the first number of
+// Lists the qubits at which the stabilizer of a row clashes with Z, behind the first number of
 // `xs`, and those at which it clashes with X. Answers where the first list ends, and how long the
 // second is.
 fn list_letters<A: Allocator + Copy>(
@@ -100,14 +100,14 @@ fn list_letters<A: Allocator + Copy>(
     ensures xs_end { result.0 ≤ 1 + row_count tableau.now }
     ensures zs_end { result.1 ≤ row_count tableau.now }
     ensures xs { take result.0 xs.new
-        ≡ take 1 xs.old ++ clashing Z 0 (destabilizer_at tableau.now row).letters }
-    ensures zs { take result.1 zs.new ≡ clashing X 0 (destabilizer_at tableau.now row).letters }
+        ≡ take 1 xs.old ++ clashing Z 0 (stabilizer_at tableau.now row).letters }
+    ensures zs { take result.1 zs.new ≡ clashing X 0 (stabilizer_at tableau.now row).letters }
 {
     rows_have_all_letters(tableau);
     let mut xs_end = 1;
     let mut zs_end = 0;
     for qubit in 0..tableau.len() {
-        let letter = tableau.destabilizer_letter(row, qubit);
+        let letter = tableau.stabilizer_letter(row, qubit);
         xs[xs_end] = qubit as u16;
         xs_end = after(xs_end, letter.clashes(Letter::Z));
         zs[zs_end] = qubit as u16;

@@ -4,7 +4,7 @@ ghost use Rattle.pauli_word.specs.Words.{signed};
 ghost use Rattle.step_model.specs.Listing.{word_of_terms};
 ghost use Rattle.step_model.specs.Runs.{after_collapse, next_coin};
 ghost use Rattle.step_model.specs.WellFormed.{TermsFit};
-ghost use Rattle.forward_sim.specs.private.Kept.{NamesRow};
+ghost use Rattle.tableau.specs.Rows.{NamesRandom};
 ghost use Rattle.forward_sim.specs.private.Machines.{ComesTo, qubit_count, run_of};
 
 use crate::machine::Machine;
@@ -12,24 +12,36 @@ use pauli_word::Word;
 use std::alloc::Allocator;
 use step_model::Term;
 
-/// Measures a Pauli product. Answers the outcome, and the row that was replaced where it was random. Records nothing.
-pub(crate) fn collapse_product<A: Allocator + Copy>(
+/// Measures a Pauli product, and answers the outcome. Records nothing.
+pub(crate) fn measure_product<A: Allocator + Copy>(
     machine: &mut Machine<'_, A>,
     terms: &[Term],
-) -> (bool, Option<usize>)
+) -> bool
     requires { TermsFit (qubit_count machine.old) terms.now }
-    ensures outcome { result.0
+    ensures outcome { result
         ≡ outcome (run_of machine.old).state (word_of_terms (qubit_count machine.old) terms.now)
         (next_coin machine.old.coins) }
     ensures run { ComesTo machine.old machine.new
         (after_collapse (word_of_terms (qubit_count machine.old) terms.now) None false false
         (run_of machine.old)) }
-    ensures row { NamesRow machine.old.rows machine.new.rows
-        (word_of_terms (qubit_count machine.old) terms.now) result.1 }
 {
     let coin = machine.take_coin();
     set_product(&mut machine.word, terms);
-    machine.tableau.collapse_word(&machine.word, coin)
+    machine.tableau.measure_word(&machine.word, coin)
+}
+
+/// The row whose stabilizer a measurement of a Pauli product may replace, where its outcome is random.
+pub(crate) fn product_row<A: Allocator + Copy>(
+    machine: &mut Machine<'_, A>,
+    terms: &[Term],
+) -> Option<usize>
+    requires { TermsFit (qubit_count machine.old) terms.now }
+    ensures same { machine.new ≡ machine.old }
+    ensures row { NamesRandom machine.old.rows
+        (word_of_terms (qubit_count machine.old) terms.now) result }
+{
+    set_product(&mut machine.word, terms);
+    machine.tableau.random_row_of_word(&machine.word)
 }
 
 // Sets a word to the product of letters at qubits, with sign plus.

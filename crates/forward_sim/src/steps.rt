@@ -7,9 +7,9 @@ ghost use Rattle.step_model.specs.Listing.{Fault};
 ghost use Rattle.step_model.specs.Runs.{after_collapse, flip_happens, next};
 ghost use Rattle.forward_sim.specs.private.Machines.{CanTake, ComesTo, correction_of, ended, in_state, qubit_count, run_of};
 
-use crate::letters::collapse_letter;
+use crate::letters::measure_letter;
 use crate::machine::Machine;
-use crate::products::collapse_product;
+use crate::products::measure_product;
 use crate::values::value_at;
 use pauli_word::Letter;
 use programs::{FaultName, Program, Step};
@@ -50,7 +50,7 @@ pub(crate) fn take_step<A: Allocator + Copy>(
             inverted,
             flip,
         } => {
-            let (seen, _) = collapse_product(machine, program.product(product));
+            let seen = measure_product(machine, program.product(product));
             machine.keep(rec, seen ^ (inverted ^ flip_happens(faults, flip)));
         }
         Step::Fault(name) => take_fault(machine, program, faults, name),
@@ -74,7 +74,7 @@ fn collapse<A: Allocator + Copy>(
         (after_collapse (lone_letter (qubit_count machine.old) qubit letter)
         (correction_of machine.old reset letter qubit) (is_some rec) changes (run_of machine.old)) }
 {
-    let (seen, _) = collapse_letter(machine, letter, qubit);
+    let seen = measure_letter(machine, letter, qubit);
     end_collapse(machine, letter, qubit, reset, seen, rec, changes);
 }
 

@@ -1,5 +1,6 @@
 ghost use Rattle.std.specs.Prelude.{◌≡◌, ◌↔◌, ◌<◌, ◌≤◌, length, false, slice_set, not, IfOk, IsTrue};
-ghost use Rattle.pauli_word.specs.Letters.{is_minus};
+ghost use Rattle.pauli_word.specs.declared.letter.Letter.TheVariants.{Z};
+ghost use Rattle.pauli_word.specs.Letters.{is_minus, letters_clash};
 ghost use Rattle.pauli_word.specs.Words.{letter_at, anticommute, letters_power, product, lowest_X_or_Y};
 ghost use Rattle.pauli_word.specs.Groups.{identity_word};
 
@@ -69,6 +70,15 @@ impl<A: Allocator + Copy> Word<A> {
     {
         let bits = BitRow::get_both(&self.x, &self.z, qubit);
         Letter::of_bits(bits.0, bits.1)
+    }
+
+    /// Whether the letter at a qubit is X or Y, for which half of its bits are read.
+    #[inline(always)]
+    pub fn has_x_or_y(&self, qubit: usize) -> bool
+        requires { qubit < length self.now.letters }
+        ensures { result ≡ letters_clash (letter_at self.now.letters qubit) Z }
+    {
+        self.x.get(qubit)
     }
 
     /// Puts a letter at a qubit.

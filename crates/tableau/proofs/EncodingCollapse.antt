@@ -15,13 +15,14 @@ use Rattle.pauli_word.proofs.LetterLaws.{letters_clash_comm}
 use Rattle.pauli_word.proofs.LoneLetters.{anticommute-lone_letter}
 use Rattle.pauli_word.proofs.LowestLetters.{lowest-clash}
 use Rattle.pauli_word.proofs.Parities.{exclusive_or-false}
+use Rattle.tableau.specs.private.CliffordMaps.{turned}
 use Rattle.tableau.specs.private.Encoding.{Pair, encoded, IsTableau}
-use Rattle.tableau.specs.private.EncodingSteps.{lone, code_of, row_map, collapsed_at, outcome_at}
+use Rattle.tableau.specs.private.EncodingSteps.{lone, code_of, row_map, collapsed_at, measured_at, outcome_at}
 use Rattle.tableau.proofs.DiagonalWords.{all_diagonal, start_diagonal, decided_diagonal, Z_in_start}
 use Rattle.tableau.proofs.EncodingGates.{code_state, mapped_encodes}
 use Rattle.tableau.proofs.RandomCollapse.{map_clifford, collapses}
 use Rattle.tableau.proofs.RowMaps.{products_kept, kept_sign}
-use Rattle.tableau.proofs.Turns.{undecided}
+use Rattle.tableau.proofs.Turns.{product_size, turned_clifford, undecided, turn_collapses}
 
 or_swapped : (a b : Bool) → (a || b) ≡ (b || a)
 or_swapped false false = refl
@@ -124,3 +125,29 @@ module _ (n : ℕ) (rows : List Pair) (is : IsTableau n rows) (w : List Letter) 
 
   pub collapse_is : Collapsed (lowest_X_or_Y P.letters)
   collapse_is = collapse_by (lowest_X_or_Y P.letters) refl
+
+  -- what a measurement owes of the rows, which are turned by Z at k times the code
+  pub record Measured (o : Option ℕ) : Type 0 where
+    pub tableau : IsTableau n (measured_at n o (with_sign_changed coin P) rows)
+    pub state : (p : Signed) → length p.letters ≡ n → code_state n (measured_at n o (with_sign_changed coin P) rows) p ≡ collapsed w coin (code_state n rows) p
+
+  measure_by : (o : Option ℕ) → lowest_X_or_Y P.letters ≡ o → Measured o
+  measure_by None e = let as_before = collapse_by None e in record { tableau = as_before.tableau; state = as_before.state }
+  measure_by (Some k) e =
+      let at = low k e in
+      let u = lone n k Z in
+      let u_in = Z_in_start n k in
+      let c = exclusive_or coin P.negative in
+      let turn = product u (with_sign_changed coin P) in
+      let apart : anticommute u.letters P.letters ≡ true =
+      anticommute-lone_letter n P.letters k Z P_size at.0 ∙ (letters_clash_comm Z (letter_at P.letters k) ∙ at.1) in
+      let encodes = mapped_encodes n rows is (turned turn) (turned_clifford n turn (product_size n u (with_sign_changed coin P) u_in.size P_size)) in
+      record {
+        tableau = encodes.tableau;
+        state = λ p h.
+            ap start_state (encodes.map p h)
+            ∙ (turn_collapses n start_state (IsGroup-start n) u u_in P.letters P_size apart c (encoded n rows p) (is.clifford.keeps.size p h) ∙ sym (map_through p h));
+      }
+
+  pub measure_is : Measured (lowest_X_or_Y P.letters)
+  measure_is = measure_by (lowest_X_or_Y P.letters) refl

@@ -1,22 +1,21 @@
 -- What a call owes of the rows seen, from what it made of the rows kept.
-use Rattle.std.proofs.Common.{◌≡◌, ◌<◌, ℕ, Bool, true, false, List, length, set, get_or, Option, None, Some, ap, ap₂, sym, subst, ◌∙◌}
-use Rattle.std.specs.Prelude.{IfSome, IfNone}
+use Rattle.std.proofs.Common.{◌≡◌, ◌<◌, ℕ, Bool, true, false, List, length, get_or, Option, None, Some, ap, ap₂, sym, subst, ◌∙◌}
+use Rattle.std.specs.Prelude.{IfSome}
 use Rattle.pauli_word.specs.declared.letter.Letter.{Letter}
 use Rattle.pauli_word.specs.declared.letter.Letter.TheVariants.{X, Z}
 use Rattle.pauli_word.specs.Letters.{letters_clash}
-use Rattle.pauli_word.specs.States.{State, start_state, is_decided, outcome, collapsed}
+use Rattle.pauli_word.specs.States.{State, start_state, outcome, collapsed}
 use Rattle.pauli_word.specs.Words.{Signed, signed, with_sign_changed, anticommute, lone_letter, letter_at, lowest_X_or_Y}
-use Rattle.pauli_word.specs.Groups.{identity_word}
 use Rattle.pauli_word.proofs.LetterLaws.{letters_clash_comm}
 use Rattle.pauli_word.proofs.LoneLetters.{length-lone_letter, anticommute-lone_letter}
 use Rattle.pauli_word.proofs.WordLaws.{anticommute_comm}
 use Rattle.tableau.specs.private.Decoding.{decoded, rows_seen}
 use Rattle.tableau.specs.private.Encoding.{Pair, word_of, encoded, IsTableau, HasLength}
-use Rattle.tableau.specs.private.EncodingSteps.{lone, mapped, code_of, row_map, collapsed_at, after_collapse, outcome_of}
-use Rattle.tableau.specs.Rows.{Rows, row_count, stabilizer_at, destabilizer_at, state_of, HasState, IsReplaced, IsCollapsed}
+use Rattle.tableau.specs.private.EncodingSteps.{lone, mapped, code_of, row_map, collapsed_at, after_collapse, after_measurement, outcome_of}
+use Rattle.tableau.specs.Rows.{Rows, row_count, stabilizer_at, destabilizer_at, state_of, HasState, IsReplaceable, NamesRandom, IsCollapsed}
 use Rattle.tableau.proofs.DecodingLaws.{decoded_size, encode_decode, decode_encode}
 use Rattle.tableau.proofs.DiagonalWords.{Z_in_start}
-use Rattle.tableau.proofs.EncodingCollapse.{collapse_is, decided_here_by, random_undecided, low, P_size}
+use Rattle.tableau.proofs.EncodingCollapse.{collapse_is, measure_is, decided_here_by, random_undecided, low, P_size}
 use Rattle.tableau.proofs.EncodingGates.{code_state, Encodes, mapped_encodes}
 use Rattle.tableau.proofs.PairWords.{pair_read}
 use Rattle.tableau.proofs.RowMaps.{row_encoded}
@@ -51,17 +50,15 @@ module _ (rows : List Pair) (old : Rows) (is : IsTableau (length rows) rows) (sa
   pub destabilizer_letters : (k : ℕ) → k < n → (destabilizer_at old k).letters ≡ (decoded n rows (lone n k X)).letters
   destabilizer_letters k h = ap (λ o. (destabilizer_at o k).letters) (sym same) ∙ ap (λ w. w.letters) (seen_destabilizer rows is k h)
 
+  pub stabilizer_letters : (k : ℕ) → k < n → (stabilizer_at old k).letters ≡ (decoded n rows (lone n k Z)).letters
+  stabilizer_letters k h = ap (λ o. (stabilizer_at o k).letters) (sym same) ∙ ap (λ w. w.letters) (seen_stabilizer rows is k h)
+
   -- the code of a letter at a qubit is its pair's word
   pub lone_code : (q : ℕ) → q < n → (r : Pair) → r ≡ get_or rows q r → (m : ℕ) → m ≡ n → (a : Letter) → (code : Signed) → code ≡ with_sign_changed false (word_of m r a) → code ≡ code_of n rows (lone_letter (row_count old) q a)
   lone_code q h r r_is m m_is a code code_is =
       code_is
       ∙ (ap₂ (λ k t. word_of k t a) m_is (pair_read n rows q r h r_is)
       ∙ (sym (row_encoded n rows is q a h) ∙ ap (λ k. code_of n rows (lone_letter k q a)) kept_size))
-
-  -- the letter's word, made in a spare word
-  pub lone_made : (m : ℕ) → m ≡ n → (q : ℕ) (a : Letter) (cleared : Signed) → cleared ≡ identity_word m → (word : Signed) → word ≡ signed (set cleared.letters q a) cleared.negative → word.letters ≡ lone_letter (row_count old) q a
-  lone_made m m_is q a cleared cleared_is word word_is =
-      ap (λ w. w.letters) word_is ∙ (ap (λ w. set w.letters q a) cleared_is ∙ ap (λ k. lone_letter k q a) (m_is ∙ kept_size))
 
   -- new rows kept
   module _ (new : List Pair) (new_is : IsTableau n new) where
@@ -96,7 +93,49 @@ module _ (rows : List Pair) (old : Rows) (is : IsTableau (length rows) rows) (sa
     pub code_long : length code.letters ≡ n
     code_long = ap (λ c. length c.letters) code_is ∙ P_size n rows is w coin size
 
-    outcome_owed : (b : Bool) → b ≡ outcome_of code coin → b ≡ outcome (state_of old) w coin
+    module _ (k : ℕ) (e : lowest_X_or_Y P.letters ≡ Some k) where
+      at : (k < n) × (letters_clash (letter_at P.letters k) Z ≡ true)
+      at = low n rows is w coin size k e
+
+      abbrev S : Signed
+      S = decoded n rows (lone n k Z)
+
+      S_size : length S.letters ≡ n
+      S_size = decoded_size n rows is (lone n k Z) (length-lone_letter n k Z)
+
+      S_code : encoded n rows S ≡ lone n k Z
+      S_code = encode_decode n rows is (lone n k Z) (length-lone_letter n k Z)
+
+      row_is : stabilizer_at old k ≡ S
+      row_is = ap (λ o. stabilizer_at o k) (sym same) ∙ seen_stabilizer rows is k at.0
+
+      P_long : length P.letters ≡ n
+      P_long = P_size n rows is w coin size
+
+      -- the row's stabilizer is in the state, and anticommutes with w
+      replaceable_row : IsReplaceable old w k
+      replaceable_row =
+          record {
+            inside = subst (λ m. k < m) kept_size at.0;
+            random = same_decided n (state_of old) (code_state n rows) agree w size ∙ random_undecided n rows is w coin size k e;
+            was_in_state = ap (state_of old) row_is ∙ (agree S S_size ∙ (ap start_state S_code ∙ (Z_in_start n k).member));
+            anticommuted =
+                ap (λ u. anticommute w u.letters) row_is
+                ∙ (sym (is.clifford.keeps.anticommuting (signed w false) S size S_size)
+                ∙ (ap (λ u. anticommute P.letters u.letters) S_code
+                ∙ (anticommute_comm P.letters (lone_letter n k Z)
+                ∙ (anticommute-lone_letter n P.letters k Z P_long at.0 ∙ (letters_clash_comm Z (letter_at P.letters k) ∙ at.1)))));
+          }
+
+    here : (row : Option ℕ) → row ≡ lowest_X_or_Y code.letters → lowest_X_or_Y P.letters ≡ row
+    here row e = sym (e ∙ ap (λ c. lowest_X_or_Y c.letters) code_is)
+
+    -- the row that a random collapse would replace
+    pub named : (row : Option ℕ) → row ≡ lowest_X_or_Y code.letters → NamesRandom old w row
+    named None e = same_decided n (state_of old) (code_state n rows) agree w size ∙ decided_here_by n rows is w coin size (here None e)
+    named (Some k) e = replaceable_row k (here (Some k) e)
+
+    pub outcome_owed : (b : Bool) → b ≡ outcome_of code coin → b ≡ outcome (state_of old) w coin
     outcome_owed b e =
         e
         ∙ (ap (λ c. outcome_of c coin) code_is
@@ -117,73 +156,33 @@ module _ (rows : List Pair) (old : Rows) (is : IsTableau (length rows) rows) (sa
           ∙ ((collapse_is n rows is w coin size).state p h
           ∙ sym (same_collapsed n (state_of old) (code_state n rows) agree w size coin p h)))
 
-      here : (row : Option ℕ) → row ≡ lowest_X_or_Y code.letters → lowest_X_or_Y P.letters ≡ row
-      here row e = sym (e ∙ ap (λ c. lowest_X_or_Y c.letters) code_is)
-
-      decided_owed : (row : Option ℕ) → row ≡ lowest_X_or_Y code.letters → IfNone row (is_decided (state_of old) w ≡ true)
-      decided_owed None e = same_decided n (state_of old) (code_state n rows) agree w size ∙ decided_here_by n rows is w coin size (here None e)
-      decided_owed (Some k) e = tt
-
-      random_owed : (row : Option ℕ) → row ≡ lowest_X_or_Y code.letters → IfSome row (λ k. is_decided (state_of old) w ≡ false)
-      random_owed None e = tt
-      random_owed (Some k) e = same_decided n (state_of old) (code_state n rows) agree w size ∙ random_undecided n rows is w coin size k (here (Some k) e)
-
       module _ (k : ℕ) (e : lowest_X_or_Y P.letters ≡ Some k) where
-        at : (k < n) × (letters_clash (letter_at P.letters k) Z ≡ true)
-        at = low n rows is w coin size k e
-
-        abbrev S : Signed
-        S = decoded n rows (lone n k Z)
-
-        S_size : length S.letters ≡ n
-        S_size = decoded_size n rows is (lone n k Z) (length-lone_letter n k Z)
-
-        S_code : encoded n rows S ≡ lone n k Z
-        S_code = encode_decode n rows is (lone n k Z) (length-lone_letter n k Z)
-
-        row_is : stabilizer_at old k ≡ S
-        row_is = ap (λ o. stabilizer_at o k) (sym same) ∙ seen_stabilizer rows is k at.0
-
         abbrev turn : Signed → Signed
         turn = row_map n k (with_sign_changed coin P)
 
         turned : new ≡ mapped turn rows
         turned = new_here ∙ ap (λ o. collapsed_at n o (with_sign_changed coin P) rows) e
 
-        P_long : length P.letters ≡ n
-        P_long = P_size n rows is w coin size
-
-        S_code_after : encoded n new S ≡ lone n k X
+        S_code_after : encoded n new (S k e) ≡ lone n k X
         S_code_after =
-            ap (λ l. encoded n l S) turned
-            ∙ ((mapped_encodes n rows is turn (map_clifford n k P.letters (with_sign_changed coin P).negative P_long at.0 at.1)).map S S_size
-            ∙ (ap turn S_code ∙ replaced n k P.letters (with_sign_changed coin P).negative P_long at.0 at.1))
+            ap (λ l. encoded n l (S k e)) turned
+            ∙ ((mapped_encodes n rows is turn (map_clifford n k P.letters (with_sign_changed coin P).negative (P_long k e) (at k e).0 (at k e).1)).map (S k e) (S_size k e)
+            ∙ (ap turn (S_code k e) ∙ replaced n k P.letters (with_sign_changed coin P).negative (P_long k e) (at k e).0 (at k e).1))
 
-        new_row_is : destabilizer_at (rows_seen new) k ≡ S
+        new_row_is : destabilizer_at (rows_seen new) k ≡ (S k e)
         new_row_is =
             let new_tableau = new_tableau new collapsed_tableau in
             let count = collapsed_tableau.count in
-            seen_destabilizer new new_tableau k (subst (λ m. k < m) (sym count) at.0)
+            seen_destabilizer new new_tableau k (subst (λ m. k < m) (sym count) (at k e).0)
             ∙ (ap (λ m. decoded m new (lone m k X)) count
-            ∙ (ap (decoded n new) (sym S_code_after) ∙ decode_encode n new collapsed_tableau S S_size))
+            ∙ (ap (decoded n new) (sym S_code_after) ∙ decode_encode n new collapsed_tableau (S k e) (S_size k e)))
 
-        replaced_row : IsReplaced old (rows_seen new) w k
-        replaced_row =
-            record {
-              inside = subst (λ m. k < m) kept_size at.0;
-              was_in_state = ap (state_of old) row_is ∙ (agree S S_size ∙ (ap start_state S_code ∙ (Z_in_start n k).member));
-              anticommuted =
-                  ap (λ u. anticommute w u.letters) row_is
-                  ∙ (sym (is.clifford.keeps.anticommuting (signed w false) S size S_size)
-                  ∙ (ap (λ u. anticommute P.letters u.letters) S_code
-                  ∙ (anticommute_comm P.letters (lone_letter n k Z)
-                  ∙ (anticommute-lone_letter n P.letters k Z P_long at.0 ∙ (letters_clash_comm Z (letter_at P.letters k) ∙ at.1)))));
-              becomes_destabilizer = ap (λ u. u.letters) (new_row_is ∙ sym row_is);
-            }
+        becomes : (destabilizer_at (rows_seen new) k).letters ≡ (stabilizer_at old k).letters
+        becomes = ap (λ u. u.letters) (new_row_is ∙ sym (row_is k e))
 
-      replaced_owed : (row : Option ℕ) → row ≡ lowest_X_or_Y code.letters → IfSome row (IsReplaced old (rows_seen new) w)
-      replaced_owed None e = tt
-      replaced_owed (Some k) e = replaced_row k (here (Some k) e)
+      becomes_owed : (row : Option ℕ) → row ≡ lowest_X_or_Y code.letters → IfSome row (λ k. (destabilizer_at (rows_seen new) k).letters ≡ (stabilizer_at old k).letters)
+      becomes_owed None e = tt
+      becomes_owed (Some k) e = becomes k (here (Some k) e)
 
       pub collapses : (seen : Bool) → seen ≡ outcome_of code coin → (row : Option ℕ) → row ≡ lowest_X_or_Y code.letters → Collapses n old new w coin seen row
       collapses seen seen_is row row_is =
@@ -195,10 +194,29 @@ module _ (rows : List Pair) (old : Rows) (is : IsTableau (length rows) rows) (sa
               len = keeps.len;
               outcome_is = outcome_owed seen seen_is;
               state_is = keeps.state_is;
-              decided = decided_owed row row_is;
-              random = random_owed row row_is;
-              replaced = replaced_owed row row_is;
+              named = named row row_is;
+              becomes_destabilizer = becomes_owed row row_is;
             };
+          }
+
+    -- the same where the rows are turned, and no word is kept as a destabilizer
+    module _ (new : List Pair) (new_is : new ≡ after_measurement n code coin rows) where
+      turned_here : new ≡ after_measurement n P coin rows
+      turned_here = new_is ∙ ap (λ c. after_measurement n c coin rows) code_is
+
+      pub measures : Keeps n old new (collapsed w coin (state_of old))
+      measures =
+          let measured = measure_is n rows is w coin size in
+          let tableau : IsTableau n new = subst (IsTableau n) (sym turned_here) measured.tableau in
+          record {
+            tableau = new_tableau new tableau;
+            long = still_long new tableau;
+            len = new_count new tableau;
+            state_is =
+                state_known new tableau (collapsed w coin (state_of old))
+                (λ p h.
+                ap (λ l. code_state n l p) turned_here
+                ∙ (measured.state p h ∙ sym (same_collapsed n (state_of old) (code_state n rows) agree w size coin p h)));
           }
 
   -- gates and words, whose rows encode by the map before after the step's map

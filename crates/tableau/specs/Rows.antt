@@ -4,7 +4,7 @@
 -- those of its factors alone. So a word is in the state where it commutes with all stabilizer rows, and has the sign of
 -- the product of those whose destabilizer rows it anticommutes with. A destabilizer row's sign has no meaning.
 -- (Aaronson and Gottesman, Phys. Rev. A 70, 052328 (2004), section III.)
-use Rattle.std.specs.Prelude.{◌≡◌, ◌<◌, ℕ, Bool, true, false, not, ◌&&◌, if◌then◌else◌, List, ◌∷◌, length, map, Option, IfNone, IfSome, slice_index_or}
+use Rattle.std.specs.Prelude.{◌≡◌, ◌<◌, ℕ, Bool, true, false, not, ◌&&◌, if◌then◌else◌, List, ◌∷◌, length, map, Option, None, Some, IfSome, slice_index_or}
 use Rattle.std.specs.List.{list_all}
 use Rattle.pauli_word.specs.declared.letter.Letter.{Letter}
 use Rattle.pauli_word.specs.Parity.{exclusive_or}
@@ -59,19 +59,23 @@ state_of rows p =
 abbrev pub HasState : Rows → State → Type 0
 HasState rows s = (p : Signed) → length p.letters ≡ row_count rows → state_of rows p ≡ s p
 
--- what a collapse of w with a random outcome does to the row that it names: the row's stabilizer was in the state and
--- anticommuted with w; its letters become those of the row's destabilizer
-pub record IsReplaced (old new : Rows) (w : List Letter) (row : ℕ) : Type 0 where
-  pub inside : row < row_count old
-  pub was_in_state : state_of old (stabilizer_at old row) ≡ true
-  pub anticommuted : anticommute w (stabilizer_at old row).letters ≡ true
-  pub becomes_destabilizer : (destabilizer_at new row).letters ≡ (stabilizer_at old row).letters
+-- a collapse of w is random, and may replace the stabilizer of this row, which is in the state and anticommutes with w
+pub record IsReplaceable (rows : Rows) (w : List Letter) (row : ℕ) : Type 0 where
+  pub inside : row < row_count rows
+  pub random : is_decided (state_of rows) w ≡ false
+  pub was_in_state : state_of rows (stabilizer_at rows row) ≡ true
+  pub anticommuted : anticommute w (stabilizer_at rows row).letters ≡ true
 
--- a collapse of w by a coin, which saw this outcome; it names a row where the outcome is random, which is then replaced
+-- the row is named exactly where a collapse of w is random
+abbrev pub NamesRandom : Rows → List Letter → Option ℕ → Type 0
+NamesRandom rows w None = is_decided (state_of rows) w ≡ true
+NamesRandom rows w (Some row) = IsReplaceable rows w row
+
+-- a collapse of w by a coin, which saw this outcome; it names a row where the outcome is random, whose stabilizer was replaced
+-- and gives its letters to the row's destabilizer
 pub record IsCollapsed (old new : Rows) (w : List Letter) (coin seen : Bool) (row : Option ℕ) : Type 0 where
   pub len : row_count new ≡ row_count old
   pub outcome_is : seen ≡ outcome (state_of old) w coin
   pub state_is : HasState new (collapsed w coin (state_of old))
-  pub decided : IfNone row (is_decided (state_of old) w ≡ true)
-  pub random : IfSome row (λ k. is_decided (state_of old) w ≡ false)
-  pub replaced : IfSome row (IsReplaced old new w)
+  pub named : NamesRandom old w row
+  pub becomes_destabilizer : IfSome row (λ k. (destabilizer_at new k).letters ≡ (stabilizer_at old k).letters)

@@ -6,12 +6,12 @@ ghost use Rattle.gate_table.specs.WordImages.{image_at};
 ghost use Rattle.pauli_word.specs.declared.letter.Letter.TheVariants.{I, Z};
 ghost use Rattle.pauli_word.specs.Letters.{letters_clash};
 ghost use Rattle.pauli_word.specs.Parity.{exclusive_or};
-ghost use Rattle.pauli_word.specs.Words.{anticommute, letter_at, with_sign_changed, lowest_X_or_Y};
+ghost use Rattle.pauli_word.specs.Words.{anticommute, letter_at, lone_letter, with_sign_changed, lowest_X_or_Y};
 ghost use Rattle.tableau.specs.private.CliffordMaps.{twisted};
 ghost use Rattle.tableau.specs.private.Encoding.{HasLength, IsTableau, pair_at, word_of};
 ghost use Rattle.tableau.specs.private.EncodingSteps.{lone, mapped, code_of, without, turning_gate, after_collapse, outcome_of, IsPivot, ClashesAt, IsDiagonal};
 
-use crate::pairs::{Pair, change_sign, multiply};
+use crate::pairs::{Pair, change_sign, multiply, set_word};
 use gate_table::Gate;
 use pauli_word::{Letter, Word};
 use std::alloc::Allocator;
@@ -31,6 +31,28 @@ pub(crate) fn encode<A: Allocator + Copy>(
     for qubit in 0..rows.len() {
         multiply(code, &rows[qubit], word.letter(qubit));
     }
+}
+
+/// Makes `word` a letter at a qubit, and `code` its code.
+pub(crate) fn encode_letter<A: Allocator + Copy>(
+    rows: &Vec<Pair<A>, A>,
+    word: &mut Word<A>,
+    code: &mut Word<A>,
+    letter: Letter,
+    qubit: usize,
+)
+    requires tableau { IsTableau (length rows.now.items) rows.now.items }
+    requires inside { qubit < length rows.now.items }
+    requires word { length word.old.letters ≡ length rows.now.items }
+    requires code { length code.old.letters ≡ length rows.now.items }
+    ensures word { word.new ≡ lone (length rows.now.items) qubit letter }
+    ensures code { code.new
+        ≡ code_of (length rows.now.items) rows.now.items
+        (lone_letter (length rows.now.items) qubit letter) }
+{
+    word.clear();
+    word.set_letter(qubit, letter);
+    set_word(code, &rows[qubit], letter, false);
 }
 
 /// The sign of the word of X or of Z, where it has only I and Z. None doesn't mean that the outcome is random.
@@ -139,9 +161,13 @@ fn turn_rows<A: Allocator + Copy>(
     }
 }
 
-// The letter of the word at a qubit: I where `only` names another qubit.
+/// The letter of the word at a qubit: I where `only` names another qubit.
 #[inline(always)]
-fn measured_at<A: Allocator + Copy>(word: &Word<A>, only: Option<usize>, qubit: usize) -> Letter
+pub(crate) fn measured_at<A: Allocator + Copy>(
+    word: &Word<A>,
+    only: Option<usize>,
+    qubit: usize,
+) -> Letter
     requires inside { qubit < length word.now.letters }
     requires only { IfSome only (λ k. (i : ℕ) → i ≢ k → letter_at word.now.letters i ≡ I) }
     ensures { result ≡ letter_at word.now.letters qubit }
@@ -154,35 +180,8 @@ fn measured_at<A: Allocator + Copy>(word: &Word<A>, only: Option<usize>, qubit: 
     word.letter(qubit)
 }
 
-// Few qubits are measured. For the others the letter stands as a constant, so that the compiler leaves out what depends on it.
 #[inline(always)]
 fn turn_pair<A: Allocator + Copy>(
-    pair: &mut Pair<A>,
-    code: &Pair<A>,
-    letter: Letter,
-    qubit: usize,
-    measured: Letter,
-)
-    requires pivot { IsPivot (length code.now.0.letters) qubit code.now }
-    requires size { HasLength (length code.now.0.letters) pair.old }
-    requires clashes { ClashesAt measured letter qubit code.now.0 pair.old }
-    ensures { pair.new
-        ≡ (
-          image_at (turning_gate letter) qubit
-              (twisted (lone (length code.now.0.letters) qubit Z) code.now.0 pair.old.0),
-          image_at
-              (turning_gate letter) qubit
-              (twisted (lone (length code.now.0.letters) qubit Z) code.now.0 pair.old.1),
-        ) }
-{
-    match measured {
-        Letter::I => turn_both(pair, code, letter, qubit, Letter::I),
-        other => turn_both(pair, code, letter, qubit, other),
-    }
-}
-
-#[inline(always)]
-fn turn_both<A: Allocator + Copy>(
     pair: &mut Pair<A>,
     code: &Pair<A>,
     letter: Letter,

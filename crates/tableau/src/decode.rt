@@ -1,7 +1,7 @@
 //! The rows of the circuit's map, read from those of its inverse.
 ghost use Rattle.std.specs.Prelude.{◌≡◌, ◌<◌, length, false};
 ghost use Rattle.pauli_word.specs.Bits.{letter_of};
-ghost use Rattle.pauli_word.specs.declared.letter.Letter.TheVariants.{X};
+ghost use Rattle.pauli_word.specs.declared.letter.Letter.TheVariants.{X, Z};
 ghost use Rattle.pauli_word.specs.Letters.{letters_clash};
 ghost use Rattle.pauli_word.specs.Words.{lone_letter, letter_at, signed};
 ghost use Rattle.tableau.specs.private.Decoding.{decoded_letters};
@@ -26,9 +26,21 @@ pub(crate) fn decode<A: Allocator + Copy>(rows: &Vec<Pair<A>, A>, row: usize, wo
     word.set_sign(false);
 }
 
-/// The letter, at the qubit of this pair, of the word whose code is X at `row`.
+/// The letter, at the qubit of this pair, of the word whose code is Z at `row`.
 #[inline(always)]
-pub(crate) fn decoded_letter<A: Allocator + Copy>(pair: &Pair<A>, row: usize) -> Letter
+pub(crate) fn stabilizer_letter<A: Allocator + Copy>(pair: &Pair<A>, row: usize) -> Letter
+    requires x { row < length pair.now.0.letters }
+    requires z { row < length pair.now.1.letters }
+    ensures { result
+        ≡ letter_of (letters_clash (letter_at pair.now.1.letters row) Z)
+        (letters_clash (letter_at pair.now.0.letters row) Z) }
+{
+    Letter::of_bits(pair.1.has_x_or_y(row), pair.0.has_x_or_y(row))
+}
+
+// The letter, at the qubit of this pair, of the word whose code is X at `row`.
+#[inline(always)]
+fn decoded_letter<A: Allocator + Copy>(pair: &Pair<A>, row: usize) -> Letter
     requires x { row < length pair.now.0.letters }
     requires z { row < length pair.now.1.letters }
     ensures { result

@@ -6,6 +6,7 @@ mod collapse;
 mod controlled;
 mod decode;
 mod gates;
+mod measure;
 mod pairs;
 mod tableau;
 

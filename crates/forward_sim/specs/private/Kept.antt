@@ -5,12 +5,12 @@ use Rattle.std.specs.Prelude.{◌≡◌, ◌<◌, ◌+◌, ℕ, Bool, true, if�
 use Rattle.pauli_word.specs.declared.letter.Letter.{Letter}
 use Rattle.pauli_word.specs.declared.letter.Letter.TheVariants.{X, Z}
 use Rattle.pauli_word.specs.Letters.{letters_clash}
-use Rattle.pauli_word.specs.States.{State, is_decided}
+use Rattle.pauli_word.specs.States.{State}
 use Rattle.step_model.specs.declared.step.Term.{Term}
 use Rattle.step_model.specs.Listing.{ListedStep, One, Two, Collapse, Fault, Feedback, measured_word}
-use Rattle.tableau.specs.Rows.{Rows, row_count, state_of, destabilizer_at}
+use Rattle.tableau.specs.Rows.{Rows, stabilizer_at}
 use Rattle.step_model.specs.Runs.{RunState}
-use Rattle.forward_sim.specs.References.{Walking, entry_of, terms_with, walking_qubits, walking_run, IsEntry, IsReplacing}
+use Rattle.forward_sim.specs.References.{Walking, entry_of, terms_with, walking_qubits, walking_run, IsEntry}
 use Rattle.forward_sim.specs.private.SameRuns.{IsSameRun}
 
 -- the qubits at which a word, the first of whose letters is at qubit q, clashes with the letter a
@@ -32,15 +32,10 @@ pub record WordRead : Type 0 where
   pub room : ℕ
   pub terms : List Term
 
--- what is kept of a collapse, by the row that it names, if any
+-- what is kept of a collapse, by the row whose stabilizer it may replace, if any
 abbrev pub entry_for : Rows → Option ℕ → Option (List Term)
 entry_for rows None = None
-entry_for rows (Some row) = entry_of (terms_of_word (destabilizer_at rows row).letters)
-
--- a collapse of w names a row where its outcome was random, and the row's new destabilizer is a word that it replaced
-abbrev pub NamesRow : Rows → Rows → List Letter → Option ℕ → Type 0
-NamesRow old new w None = is_decided (state_of old) w ≡ true
-NamesRow old new w (Some row) = (row < row_count new) × IsReplacing (state_of old) w (destabilizer_at new row).letters
+entry_for rows (Some row) = entry_of (terms_of_word (stabilizer_at rows row).letters)
 
 -- what is kept of a collapse of w in the state s is appended to what was kept before
 abbrev pub Keeps : ℕ → State → List Letter → List (Option (List Term)) → List (Option (List Term)) → Type 0

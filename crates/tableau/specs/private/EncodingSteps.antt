@@ -16,7 +16,7 @@ use Rattle.pauli_word.specs.declared.letter.Letter.TheVariants.{I, X, Z}
 use Rattle.pauli_word.specs.Letters.{letters_clash}
 use Rattle.pauli_word.specs.Parity.{exclusive_or}
 use Rattle.pauli_word.specs.Words.{Signed, signed, anticommute, with_sign_changed, product, lone_letter, letter_at, lowest_X_or_Y}
-use Rattle.tableau.specs.private.CliffordMaps.{twisted}
+use Rattle.tableau.specs.private.CliffordMaps.{turned, twisted}
 use Rattle.tableau.specs.private.Encoding.{Pair, word_of, encoded}
 
 -- a letter at a qubit, of sign plus
@@ -107,6 +107,15 @@ after_collapse n x coin rows = collapsed_at n (lowest_X_or_Y x.letters) (with_si
 abbrev pub outcome_of : Signed → Bool → Bool
 outcome_of x coin = outcome_at (lowest_X_or_Y x.letters) x coin
 
+-- the rows after a measurement that keeps no word as a destabilizer: where its outcome is random, all are turned by Z at k times
+-- the code, its sign changed where the coin is 1
+abbrev pub measured_at : ℕ → Option ℕ → Signed → List Pair → List Pair
+measured_at n None x rows = rows
+measured_at n (Some k) x rows = mapped (turned (product (lone n k Z) x)) rows
+
+abbrev pub after_measurement : ℕ → Signed → Bool → List Pair → List Pair
+after_measurement n x coin rows = measured_at n (lowest_X_or_Y x.letters) (with_sign_changed coin x) rows
+
 -- the two words of a twist about Z at k: one with I at k, and minus its product with Z at k
 pub record IsPivot (n k : ℕ) (r : Pair) : Type 0 where
   pub inside : k < n
@@ -120,6 +129,12 @@ pub record IsPivot (n k : ℕ) (r : Pair) : Type 0 where
 pub record ClashesAt (w a : Letter) (k : ℕ) (y : Signed) (r : Pair) : Type 0 where
   pub x : anticommute r.0.letters y.letters ≡ exclusive_or (letters_clash X w) (letters_clash (letter_at r.0.letters k) a)
   pub z : anticommute r.1.letters y.letters ≡ exclusive_or (letters_clash Z w) (letters_clash (letter_at r.1.letters k) a)
+
+-- whether the words of a pair anticommute with m, which is Z at k times a code: the word of X does where either it has X or Y
+-- at k, or X clashes with the letter w measured at the pair's qubit, but not both; and so for Z
+pub record TurnsAt (w : Letter) (k : ℕ) (m : Signed) (r : Pair) : Type 0 where
+  pub x : anticommute r.0.letters m.letters ≡ exclusive_or (letters_clash (letter_at r.0.letters k) Z) (letters_clash X w)
+  pub z : anticommute r.1.letters m.letters ≡ exclusive_or (letters_clash (letter_at r.1.letters k) Z) (letters_clash Z w)
 
 -- a word of I and Z alone, with its sign
 pub record IsDiagonal (w : Signed) (minus : Bool) : Type 0 where

@@ -4,5 +4,5 @@ use Rattle.forward_sim.proofs.steps.collapse.Goals as goal
 
 pub returns : goal.returns
 returns g c =
-    letter_ends c.args.machine.now c.collapse_letter-seen.new.machine c.end_collapse.new.machine c.args.letter c.args.qubit c.args.reset c.args.rec c.args.changes c.collapse_letter-seen.result.0
-    c.collapse_letter-seen.ensures.run c.collapse_letter-seen.ensures.outcome c.end_collapse.ensures
+    letter_ends c.args.machine.now c.measure_letter-seen.new.machine c.end_collapse.new.machine c.args.letter c.args.qubit c.args.reset c.args.rec c.args.changes c.measure_letter-seen.result
+    c.measure_letter-seen.ensures.run c.measure_letter-seen.ensures.outcome c.end_collapse.ensures

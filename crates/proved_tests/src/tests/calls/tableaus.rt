@@ -1,4 +1,4 @@
-//! A word that is applied to a state, the destabilizers, and the laws of states and rows.
+//! A word that is applied to a state, what measurements replace, and the laws of states and rows.
 ghost use Rattle.std.specs.Prelude.{◌≡◌};
 ghost use Rattle.tableau.specs.Rows.{row_count};
 
@@ -42,16 +42,10 @@ fn is_second_z(
         return Ok(false);
     }
     laws::rows_have_all_letters(tableau);
-    let letter = tableau.destabilizer_letter(row, 1);
     let mut word = Word::identity(alloc, 2)?;
     word.set_sign(true);
     tableau.destabilizer(row, &mut word);
-    Ok(
-        letter == Letter::Z
-            && !word.sign()
-            && word.letter(0) == Letter::I
-            && word.letter(1) == Letter::Z,
-    )
+    Ok(!word.sign() && word.letter(0) == Letter::I && word.letter(1) == Letter::Z)
 }
 
 /// Whether X at the second of two qubits that are 0, which is applied with sign minus, makes this one 1.
@@ -88,4 +82,46 @@ fn second_x_replaces_z(alloc: Global) -> Result<bool, AllocError> {
 #[test]
 fn what_was_replaced_is_the_destabilizer(rt: HostRuntime) {
     assert!(rt; matches!(second_x_replaces_z(rt.alloc()), Ok(true)));
+}
+
+/// Whether the stabilizer of a row of two qubits is Z at the second, up to its sign.
+fn may_replace_second_z(tableau: &Tableau<Global>, row: Option<usize>) -> bool {
+    let row = row.unwrap_or(2);
+    if tableau.len() != 2 || 2 <= row {
+        return false;
+    }
+    tableau.stabilizer_letter(row, 0) == Letter::I && tableau.stabilizer_letter(row, 1) == Letter::Z
+}
+
+/// X that is measured at the second of two qubits that are 0 is random, and decided from then on.
+fn second_x_is_measured(alloc: Global) -> Result<bool, AllocError> {
+    let mut tableau = Tableau::start(alloc, 2)?;
+    let row = tableau.random_row(Letter::X, 1);
+    let replaces = may_replace_second_z(&tableau, row);
+    let first = tableau.measure(Letter::X, 1, true);
+    let second = tableau.measure(Letter::X, 1, false);
+    Ok(replaces && first && second && tableau.random_row(Letter::X, 1).is_none())
+}
+
+#[test]
+fn a_letter_is_measured(rt: HostRuntime) {
+    assert!(rt; matches!(second_x_is_measured(rt.alloc()), Ok(true)));
+}
+
+/// So is the product of X at both.
+fn product_is_measured(alloc: Global) -> Result<bool, AllocError> {
+    let mut word = Word::identity(alloc, 2)?;
+    word.set_letter(0, Letter::X);
+    word.set_letter(1, Letter::X);
+    let mut tableau = Tableau::start(alloc, 2)?;
+    let is_random = tableau.random_row_of_word(&word).is_some();
+    let (first, row) = tableau.collapse_word(&word, true);
+    let second = tableau.measure_word(&word, false);
+    let is_decided = tableau.random_row_of_word(&word).is_none();
+    Ok(is_random && first && row.is_some() && second && is_decided)
+}
+
+#[test]
+fn a_product_is_measured(rt: HostRuntime) {
+    assert!(rt; matches!(product_is_measured(rt.alloc()), Ok(true)));
 }

@@ -2,14 +2,14 @@
 use Rattle.std.proofs.Common.{◌≡◌, ◌≤◌, ◌+◌, ◌-◌, ◌++◌, suc, length, length-set, set, take, ap, sym, ◌∙◌, arith}
 use Rattle.std.proofs.lemmas.List.{length-take-le}
 use Rattle.pauli_word.specs.declared.letter.Letter.TheVariants.{X, Z}
-use Rattle.tableau.specs.Rows.{destabilizer_at}
+use Rattle.tableau.specs.Rows.{stabilizer_at}
 use Rattle.forward_sim.specs.private.Kept.{WordRead, clashing, terms_listed}
 use Rattle.forward_sim.proofs.ListedWords.{listed_parts, written}
 use Rattle.forward_sim.proofs.last_word.LastWord.read.Goals as goal
 
 pub returns-clause-read : goal.returns-clause-read
 returns-clause-read g c =
-    let w = (destabilizer_at c.args.tableau.now c.args.row).letters in
+    let w = (stabilizer_at c.args.tableau.now c.args.row).letters in
     let lists = c.list_letters-xs_end in
     let numbers = c.as_mut_slice-numbers in
     let word = c.self.inside in

@@ -1,4 +1,4 @@
-use Rattle.std.proofs.Common.{ℕ, ◌≡◌, ◌≤◌, subst, sym, length}
+use Rattle.std.proofs.Common.{ℕ, ◌≤◌, subst, sym}
 use Rattle.pauli_word.proofs.BitWords.{seen_length}
 use Rattle.pauli_word.proofs.word.Word.is_short.Goals as goal
 

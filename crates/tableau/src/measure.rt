@@ -1,0 +1,121 @@
+//! The collapse of a word, faster than in `collapse`, for who doesn't ask which word became a destabilizer. Where the outcome
+//! is random, half of the rows are multiplied by one word, and of the others one bit is read.
+ghost use Rattle.std.specs.Prelude.{◌≡◌, ◌≢◌, ◌<◌, ℕ, length, All, IfSome};
+ghost use Rattle.pauli_word.specs.declared.letter.Letter.TheVariants.{I, Z};
+ghost use Rattle.pauli_word.specs.Letters.{letters_clash};
+ghost use Rattle.pauli_word.specs.Parity.{exclusive_or};
+ghost use Rattle.pauli_word.specs.Words.{anticommute, letter_at, product, with_sign_changed};
+ghost use Rattle.tableau.specs.private.CliffordMaps.{turned};
+ghost use Rattle.tableau.specs.private.Encoding.{HasLength, IsTableau, pair_at};
+ghost use Rattle.tableau.specs.private.EncodingSteps.{lone, mapped, code_of, after_measurement, outcome_of, TurnsAt};
+
+use crate::collapse::measured_at;
+use crate::pairs::{Pair, change_sign};
+use pauli_word::{Letter, Word};
+use std::alloc::Allocator;
+
+/// Collapses the word whose code is `code.0`, and answers the outcome. Where `only` names a qubit, the word has no letter at
+/// any other.
+pub(crate) fn measure_code<A: Allocator + Copy>(
+    rows: &mut Vec<Pair<A>, A>,
+    word: &Word<A>,
+    only: Option<usize>,
+    code: &mut Pair<A>,
+    coin: bool,
+) -> bool
+    requires tableau { IsTableau (length rows.old.items) rows.old.items }
+    requires word { length word.now.letters ≡ length rows.old.items }
+    requires only { IfSome only (λ k. (i : ℕ) → i ≢ k → letter_at word.now.letters i ≡ I) }
+    requires code { HasLength (length rows.old.items) code.old }
+    requires of_word { code.old.0
+        ≡ code_of (length rows.old.items) rows.old.items word.now.letters }
+    ensures rows { rows.new.items
+        ≡ after_measurement (length rows.old.items) code.old.0 coin rows.old.items }
+    ensures code { HasLength (length rows.old.items) code.new }
+    ensures outcome { result ≡ outcome_of code.old.0 coin }
+{
+    match code.0.lowest_x_or_y() {
+        None => code.0.sign(),
+        Some(qubit) => {
+            set_turn(code, qubit, coin);
+            turn_rows(rows, word, only, &code.1, qubit);
+            coin
+        }
+    }
+}
+
+// Makes the second word Z at the qubit times the first, whose sign is changed where the coin is 1.
+fn set_turn<A: Allocator + Copy>(code: &mut Pair<A>, qubit: usize, coin: bool)
+    requires inside { qubit < length code.old.0.letters }
+    requires size { HasLength (length code.old.0.letters) code.old }
+    ensures first { code.new.0 ≡ with_sign_changed coin code.old.0 }
+    ensures second { code.new.1
+        ≡ product (lone (length code.old.0.letters) qubit Z) (with_sign_changed coin code.old.0) }
+{
+    change_sign(&mut code.0, coin);
+    code.1.clear();
+    code.1.set_letter(qubit, Letter::Z);
+    code.1.times(&code.0);
+}
+
+// Whether a row anticommutes with the turn follows from the letter measured at the row's qubit, and from the row's at `qubit`.
+fn turn_rows<A: Allocator + Copy>(
+    rows: &mut Vec<Pair<A>, A>,
+    word: &Word<A>,
+    only: Option<usize>,
+    turn: &Word<A>,
+    qubit: usize,
+)
+    requires word { length word.now.letters ≡ length rows.old.items }
+    requires only { IfSome only (λ k. (i : ℕ) → i ≢ k → letter_at word.now.letters i ≡ I) }
+    requires inside { qubit < length turn.now.letters }
+    requires sizes { All (HasLength (length turn.now.letters)) rows.old.items }
+    requires clashes { (i : ℕ)
+        → i < length rows.old.items
+        → TurnsAt (letter_at word.now.letters i) qubit turn.now
+        (pair_at (length turn.now.letters) rows.old.items i) }
+    ensures { rows.new.items ≡ mapped (turned turn.now) rows.old.items }
+{
+    for row in 0..rows.len() {
+        let measured = measured_at(word, only, row);
+        turn_pair(&mut rows[row], turn, qubit, measured);
+    }
+}
+
+// Few qubits are measured, so that mostly the letter stands as a constant.
+#[inline(always)]
+fn turn_pair<A: Allocator + Copy>(
+    pair: &mut Pair<A>,
+    turn: &Word<A>,
+    qubit: usize,
+    measured: Letter,
+)
+    requires inside { qubit < length turn.now.letters }
+    requires size { HasLength (length turn.now.letters) pair.old }
+    requires clashes { TurnsAt measured qubit turn.now pair.old }
+    ensures { pair.new ≡ (turned turn.now pair.old.0, turned turn.now pair.old.1) }
+{
+    match measured {
+        Letter::I => {
+            turn_row(&mut pair.0, turn, qubit, false);
+            turn_row(&mut pair.1, turn, qubit, false);
+        }
+        other => {
+            turn_row(&mut pair.0, turn, qubit, Letter::X.clashes(other));
+            turn_row(&mut pair.1, turn, qubit, Letter::Z.clashes(other));
+        }
+    }
+}
+
+#[inline(always)]
+fn turn_row<A: Allocator + Copy>(row: &mut Word<A>, turn: &Word<A>, qubit: usize, clashes: bool)
+    requires inside { qubit < length row.old.letters }
+    requires size { length row.old.letters ≡ length turn.now.letters }
+    requires clashes { anticommute row.old.letters turn.now.letters
+        ≡ exclusive_or (letters_clash (letter_at row.old.letters qubit) Z) clashes }
+    ensures { row.new ≡ turned turn.now row.old }
+{
+    if row.has_x_or_y(qubit) != clashes {
+        row.times(turn);
+    }
+}
