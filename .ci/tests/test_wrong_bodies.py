@@ -16,7 +16,8 @@ mkdir -p out/rlib/${PWD##*/}.rlib
 """
 
 # Proves the functions named by --only, each by the word of its body: `wrong` has its own answers refused, `open` has a goal that no
-# search closes, `lost` has an answer that rests on what it calls, `unread` can't be read. What calls a function that isn't
+# search closes, `lost` has an answer that rests on what it calls, `renamed` one that names what is
+# gone, `unread` can't be read. What calls a function that isn't
 # proved has no proof, and what a function calls is proved too.
 PROVER = """#!{python}
 import os, re, sys
@@ -39,6 +40,9 @@ def prove(function):
     if body[0] == "wrong":
         print(f"{{where}}: error: the two types differ")
         status = "not proved" + ("; " + because if calls else "")
+    elif body[0] == "renamed":
+        print(f"{{where}}: error: record `After` has no field `first`")
+        status = "not proved"
     elif body[0] == "lost" and calls:
         print(f"{{where}}: error: a declaration was not admitted")
         status = "not proved; " + because
@@ -151,6 +155,12 @@ class TriesWrongBodies(Case):
                 self.edit("first", "wrong")
                 self.edit("third", body)
                 self.assertIn("NOT REFUSED: part::third", self.assert_ends("1 passed, 1 failed"))
+
+    def test_a_body_refused_for_a_name_alone_failed(self):
+        self.edit("first", "renamed")
+        self.edit("second", "wrong")
+        said = self.assert_ends("1 passed, 1 failed")
+        self.assertIn("low/first_renamed.edit: refused only since its proof names what the edit took away", said)
 
     def test_a_body_that_cannot_be_read_failed(self):
         self.edit("first", "unread")
