@@ -60,6 +60,20 @@ module _ (rows : List Pair) (old : Rows) (is : IsTableau (length rows) rows) (sa
       ∙ (ap₂ (λ k t. word_of k t a) m_is (pair_read n rows q r h r_is)
       ∙ (sym (row_encoded n rows is q a h) ∙ ap (λ k. code_of n rows (lone_letter k q a)) kept_size))
 
+  -- a letter's word and its code, as they were made of as many letters as there are rows kept
+  module _ (q : ℕ) (a : Letter) where
+    pub lone_size : length (lone_letter (row_count old) q a) ≡ n
+    lone_size = length-lone_letter (row_count old) q a ∙ sym kept_size
+
+    pub lone_word : (word : Signed) → word ≡ lone n q a → word.letters ≡ lone_letter (row_count old) q a
+    lone_word word word_is = ap (λ w. w.letters) word_is ∙ ap (λ k. lone_letter k q a) kept_size
+
+    pub lone_long : (word : Signed) → word ≡ lone n q a → length word.letters ≡ n
+    lone_long word word_is = ap length (lone_word word word_is) ∙ lone_size
+
+    pub lone_coded : (code : Signed) → code ≡ code_of n rows (lone_letter n q a) → code ≡ code_of n rows (lone_letter (row_count old) q a)
+    lone_coded code code_is = code_is ∙ ap (λ k. code_of n rows (lone_letter k q a)) kept_size
+
   -- new rows kept
   module _ (new : List Pair) (new_is : IsTableau n new) where
     new_tableau : IsTableau (length new) new

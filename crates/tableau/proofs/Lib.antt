@@ -21,7 +21,6 @@ pub mod StartLaws
 pub mod Turns
 pub mod TwistRows
 pub mod Twists
-pub mod RowsThatStay
 pub mod ControlledRows
 pub mod ControlledGates
 pub mod SeenOutcomes

@@ -1,92 +1,30 @@
 //! The collapse of a word, which is the projective measurement inside a measurement or a reset. Where the word's code has
 //! only I and Z the outcome is its sign; otherwise the outcome is the coin, and all rows are turned.
-ghost use Rattle.std.specs.Prelude.{◌≡◌, ◌≢◌, ◌<◌, ℕ, length, true, false, All, IfSome, IsTrue, slice_set};
+ghost use Rattle.std.specs.Prelude.{◌≡◌, ◌<◌, ℕ, length, true, All, slice_set};
 ghost use Rattle.gate_table.specs.Images.{arity_of};
 ghost use Rattle.gate_table.specs.WordImages.{image_at};
 ghost use Rattle.pauli_word.specs.declared.letter.Letter.TheVariants.{I, Z};
 ghost use Rattle.pauli_word.specs.Letters.{letters_clash};
 ghost use Rattle.pauli_word.specs.Parity.{exclusive_or};
-ghost use Rattle.pauli_word.specs.Words.{anticommute, letter_at, lone_letter, with_sign_changed, lowest_X_or_Y};
+ghost use Rattle.pauli_word.specs.Words.{anticommute, letter_at, with_sign_changed, lowest_X_or_Y};
 ghost use Rattle.tableau.specs.private.CliffordMaps.{twisted};
-ghost use Rattle.tableau.specs.private.Encoding.{HasLength, IsTableau, pair_at, word_of};
-ghost use Rattle.tableau.specs.private.EncodingSteps.{lone, mapped, code_of, without, turning_gate, after_collapse, outcome_of, IsPivot, ClashesAt, IsDiagonal};
+ghost use Rattle.tableau.specs.private.Encoding.{HasLength, IsTableau, pair_at};
+ghost use Rattle.tableau.specs.private.EncodingSteps.{lone, mapped, code_of, without, turning_gate, after_collapse, outcome_of, IsPivot, ClashesAt};
 
-use crate::pairs::{Pair, change_sign, multiply, set_word};
+use crate::pairs::{Pair, change_sign};
 use gate_table::Gate;
 use pauli_word::{Letter, Word};
 use std::alloc::Allocator;
 
-/// Makes `code` the code of a word's letters.
-pub(crate) fn encode<A: Allocator + Copy>(
-    rows: &Vec<Pair<A>, A>,
-    word: &Word<A>,
-    code: &mut Word<A>,
-)
-    requires tableau { IsTableau (length rows.now.items) rows.now.items }
-    requires word { length word.now.letters ≡ length rows.now.items }
-    requires code { length code.old.letters ≡ length rows.now.items }
-    ensures { code.new ≡ code_of (length rows.now.items) rows.now.items word.now.letters }
-{
-    code.clear();
-    for qubit in 0..rows.len() {
-        multiply(code, &rows[qubit], word.letter(qubit));
-    }
-}
-
-/// Makes `word` a letter at a qubit, and `code` its code.
-pub(crate) fn encode_letter<A: Allocator + Copy>(
-    rows: &Vec<Pair<A>, A>,
-    word: &mut Word<A>,
-    code: &mut Word<A>,
-    letter: Letter,
-    qubit: usize,
-)
-    requires tableau { IsTableau (length rows.now.items) rows.now.items }
-    requires inside { qubit < length rows.now.items }
-    requires word { length word.old.letters ≡ length rows.now.items }
-    requires code { length code.old.letters ≡ length rows.now.items }
-    ensures word { word.new ≡ lone (length rows.now.items) qubit letter }
-    ensures code { code.new
-        ≡ code_of (length rows.now.items) rows.now.items
-        (lone_letter (length rows.now.items) qubit letter) }
-{
-    word.clear();
-    word.set_letter(qubit, letter);
-    set_word(code, &rows[qubit], letter, false);
-}
-
-/// The sign of the word of X or of Z, where it has only I and Z. None doesn't mean that the outcome is random.
-pub(crate) fn sign_seen<A: Allocator + Copy>(pair: &Pair<A>, letter: Letter) -> Option<bool>
-    ensures { IfSome result (λ minus. (n : ℕ) → IsDiagonal (word_of n pair.now letter) minus) }
-{
-    match letter {
-        Letter::X => diagonal_sign(&pair.0),
-        Letter::Z => diagonal_sign(&pair.1),
-        Letter::I | Letter::Y => None,
-    }
-}
-
-fn diagonal_sign<A: Allocator + Copy>(word: &Word<A>) -> Option<bool>
-    ensures { IfSome result (IsDiagonal word.now) }
-{
-    match word.lowest_x_or_y() {
-        None => Some(word.sign()),
-        Some(_) => None,
-    }
-}
-
 /// Collapses the word whose code is `code.0`. Answers the outcome, and the row that was replaced where it was random.
-/// Where `only` names a qubit, the word has no letter at any other.
 pub(crate) fn collapse_code<A: Allocator + Copy>(
     rows: &mut Vec<Pair<A>, A>,
     word: &Word<A>,
-    only: Option<usize>,
     code: &mut Pair<A>,
     coin: bool,
 ) -> (bool, Option<usize>)
     requires tableau { IsTableau (length rows.old.items) rows.old.items }
     requires word { length word.now.letters ≡ length rows.old.items }
-    requires only { IfSome only (λ k. (i : ℕ) → i ≢ k → letter_at word.now.letters i ≡ I) }
     requires code { HasLength (length rows.old.items) code.old }
     requires of_word { code.old.0
         ≡ code_of (length rows.old.items) rows.old.items word.now.letters }
@@ -101,13 +39,12 @@ pub(crate) fn collapse_code<A: Allocator + Copy>(
         Some(qubit) => {
             let letter = code.0.letter(qubit);
             set_pivot(code, qubit, coin);
-            turn_rows(rows, word, only, code, letter, qubit);
+            turn_rows(rows, word, code, letter, qubit);
             (coin, Some(qubit))
         }
     }
 }
 
-#[inline(always)]
 fn turning_gate(letter: Letter) -> Gate
     ensures gate { result ≡ turning_gate letter }
     ensures arity { arity_of result ≡ 1 }
@@ -136,13 +73,11 @@ fn set_pivot<A: Allocator + Copy>(code: &mut Pair<A>, qubit: usize, coin: bool)
 fn turn_rows<A: Allocator + Copy>(
     rows: &mut Vec<Pair<A>, A>,
     word: &Word<A>,
-    only: Option<usize>,
     code: &Pair<A>,
     letter: Letter,
     qubit: usize,
 )
     requires word { length word.now.letters ≡ length rows.old.items }
-    requires only { IfSome only (λ k. (i : ℕ) → i ≢ k → letter_at word.now.letters i ≡ I) }
     requires pivot { IsPivot (length code.now.0.letters) qubit code.now }
     requires sizes { All (HasLength (length code.now.0.letters)) rows.old.items }
     requires clashes { (i : ℕ)
@@ -156,31 +91,11 @@ fn turn_rows<A: Allocator + Copy>(
         rows.old.items }
 {
     for row in 0..rows.len() {
-        let measured = measured_at(word, only, row);
+        let measured = word.letter(row);
         turn_pair(&mut rows[row], code, letter, qubit, measured);
     }
 }
 
-/// The letter of the word at a qubit: I where `only` names another qubit.
-#[inline(always)]
-pub(crate) fn measured_at<A: Allocator + Copy>(
-    word: &Word<A>,
-    only: Option<usize>,
-    qubit: usize,
-) -> Letter
-    requires inside { qubit < length word.now.letters }
-    requires only { IfSome only (λ k. (i : ℕ) → i ≢ k → letter_at word.now.letters i ≡ I) }
-    ensures { result ≡ letter_at word.now.letters qubit }
-{
-    if let Some(k) = only {
-        if qubit != k {
-            return Letter::I;
-        }
-    }
-    word.letter(qubit)
-}
-
-#[inline(always)]
 fn turn_pair<A: Allocator + Copy>(
     pair: &mut Pair<A>,
     code: &Pair<A>,
@@ -216,8 +131,6 @@ fn turn_pair<A: Allocator + Copy>(
     );
 }
 
-// Most rows stay as they are: their letter at the qubit is all that is read of them.
-#[inline(always)]
 fn turn_row<A: Allocator + Copy>(
     row: &mut Word<A>,
     code: &Pair<A>,
@@ -234,36 +147,12 @@ fn turn_row<A: Allocator + Copy>(
         (twisted (lone (length code.now.0.letters) qubit Z) code.now.0 row.old) }
 {
     let here = row.letter(qubit);
-    if stays(here, clashes) {
-        return;
-    }
-    if loses(here, clashes ^ here.clashes(letter)) {
-        row.set_letter(qubit, Letter::I);
-        return;
-    }
     let twisted = twist(row, code, letter, qubit, here, clashes);
     put_image(row, turning_gate(letter), qubit, twisted);
 }
 
-// Whether a turn leaves a row as it is that has this letter at the qubit.
-#[inline(always)]
-fn stays(here: Letter, clashes: bool) -> bool
-    ensures { IsTrue result → (here ≡ I) × (clashes ≡ false) }
-{
-    here == Letter::I && !clashes
-}
-
-// Whether a turn takes this letter at the qubit away from a row, and changes nothing else there.
-#[inline(always)]
-fn loses(here: Letter, anticommutes: bool) -> bool
-    ensures { IsTrue result → (here ≡ Z) × (anticommutes ≡ true) }
-{
-    here == Letter::Z && anticommutes
-}
-
 // Only rows with X or Y at the qubit are multiplied; of others only the letter there changes. Answers the new letter
 // there, which isn't put yet.
-#[inline(always)]
 fn twist<A: Allocator + Copy>(
     row: &mut Word<A>,
     code: &Pair<A>,
@@ -303,7 +192,6 @@ fn twist<A: Allocator + Copy>(
 }
 
 // Puts the image of a letter under a gate at a qubit.
-#[inline(always)]
 fn put_image<A: Allocator + Copy>(word: &mut Word<A>, gate: Gate, qubit: usize, here: Letter)
     requires arity { arity_of gate ≡ 1 }
     requires inside { qubit < length word.old.letters }

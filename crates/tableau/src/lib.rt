@@ -2,6 +2,7 @@
 //! Phys. Rev. A 70, 052328; the tableau of the inverse circuit: Gidney, Quantum 5, 497 (2021).)
 #![tactic(auto)]
 
+mod codes;
 mod collapse;
 mod controlled;
 mod decode;

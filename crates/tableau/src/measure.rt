@@ -9,7 +9,6 @@ ghost use Rattle.tableau.specs.private.CliffordMaps.{turned};
 ghost use Rattle.tableau.specs.private.Encoding.{HasLength, IsTableau, pair_at};
 ghost use Rattle.tableau.specs.private.EncodingSteps.{lone, mapped, code_of, after_measurement, outcome_of, TurnsAt};
 
-use crate::collapse::measured_at;
 use crate::pairs::{Pair, change_sign};
 use pauli_word::{Letter, Word};
 use std::alloc::Allocator;
@@ -80,6 +79,21 @@ fn turn_rows<A: Allocator + Copy>(
         let measured = measured_at(word, only, row);
         turn_pair(&mut rows[row], turn, qubit, measured);
     }
+}
+
+// The letter of the word at a qubit: I where `only` names another qubit.
+#[inline(always)]
+fn measured_at<A: Allocator + Copy>(word: &Word<A>, only: Option<usize>, qubit: usize) -> Letter
+    requires inside { qubit < length word.now.letters }
+    requires only { IfSome only (λ k. (i : ℕ) → i ≢ k → letter_at word.now.letters i ≡ I) }
+    ensures { result ≡ letter_at word.now.letters qubit }
+{
+    if let Some(k) = only {
+        if qubit != k {
+            return Letter::I;
+        }
+    }
+    word.letter(qubit)
 }
 
 // Few qubits are measured, so that mostly the letter stands as a constant.

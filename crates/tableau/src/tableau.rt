@@ -7,7 +7,8 @@ ghost use Rattle.tableau.specs.Rows.{row_count, state_of, stabilizer_at, destabi
 
 pub mod laws;
 
-use crate::collapse::{collapse_code, encode, encode_letter, sign_seen};
+use crate::codes::{encode, encode_letter, sign_seen};
+use crate::collapse::collapse_code;
 use crate::decode::{decode, stabilizer_letter};
 use crate::gates::{apply_letters, apply_one, apply_two};
 use crate::measure::measure_code;
@@ -147,9 +148,6 @@ impl<A: Allocator + Copy> Tableau<A> {
         ensures { IsCollapsed self.old self.new (lone_letter (row_count self.old) qubit letter) coin
             result.0 result.1 }
     {
-        if let Some(outcome) = sign_seen(&self.rows[qubit], letter) {
-            return (outcome, None);
-        }
         encode_letter(
             &self.rows,
             &mut self.second.0,
@@ -157,13 +155,7 @@ impl<A: Allocator + Copy> Tableau<A> {
             letter,
             qubit,
         );
-        collapse_code(
-            &mut self.rows,
-            &self.second.0,
-            Some(qubit),
-            &mut self.first,
-            coin,
-        )
+        collapse_code(&mut self.rows, &self.second.0, &mut self.first, coin)
     }
 
     /// Measures a word as if its sign were plus. Answers the outcome, which is the coin where it is random, and the row
@@ -173,7 +165,7 @@ impl<A: Allocator + Copy> Tableau<A> {
         ensures { IsCollapsed self.old self.new word.now.letters coin result.0 result.1 }
     {
         encode(&self.rows, word, &mut self.first.0);
-        collapse_code(&mut self.rows, word, None, &mut self.first, coin)
+        collapse_code(&mut self.rows, word, &mut self.first, coin)
     }
 
     /// The row whose stabilizer a measurement of a letter at a qubit may replace: it is in the state, and anticommutes with what

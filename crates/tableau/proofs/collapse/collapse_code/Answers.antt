@@ -43,9 +43,6 @@ set_pivot-requires-clause-size g c = subst (λ m. HasLength m c.args.code.now) (
 pub turn_rows-requires-clause-word : goal.turn_rows-requires-clause-word
 turn_rows-requires-clause-word g c = c.requires.word
 
-pub turn_rows-requires-clause-only : goal.turn_rows-requires-clause-only
-turn_rows-requires-clause-only g c = c.requires.only
-
 pub turn_rows-requires-clause-pivot : goal.turn_rows-requires-clause-pivot
 turn_rows-requires-clause-pivot g c =
     let pivot = c.set_pivot.ensures.pivot in

@@ -21,7 +21,7 @@ turn_pair-requires-clause-clashes g c =
     let within : c.loop-row.row < length c.args.rows.now.items = omega (arith, c.loop-row-test.true, c.len-row-end.ensures) in
     clashes_read (length c.args.code.now.0.letters) c.args.rows.now.items c.loop-row.row c.index_mut.result.now within
     (c.index_mut.ensures.value ∙ current _ c.args.rows.now.items c.loop-row.rows.items c.loop-row.row c.index_mut.result.now within c.loop-row.invariant)
-    (letter_at c.args.word.now.letters c.loop-row.row) c.measured_at-measured.result c.args.letter c.measured_at-measured.ensures c.args.qubit c.args.code.now.0 (c.requires.clashes c.loop-row.row within)
+    (letter_at c.args.word.now.letters c.loop-row.row) c.letter-measured.result c.args.letter c.letter-measured.ensures c.args.qubit c.args.code.now.0 (c.requires.clashes c.loop-row.row within)
 
 pub loop-row-preserved : goal.loop-row-preserved
 loop-row-preserved g c =

@@ -1,38 +1,18 @@
 -- A sign that is seen is the outcome; otherwise the letter's code is made, and measured.
-use Rattle.std.proofs.Common.{◌≡◌, ◌<◌, length, None, ap, sym, subst, ◌∙◌}
+use Rattle.std.proofs.Common.{◌<◌, length, None, ap, sym, subst, ◌∙◌}
 use Rattle.pauli_word.specs.States.{collapsed}
 use Rattle.pauli_word.specs.Words.{letter_at, lone_letter}
-use Rattle.pauli_word.proofs.LoneLetters.{length-lone_letter}
 use Rattle.tableau.specs.private.EncodingSteps.{code_of}
 use Rattle.tableau.specs.Rows.{row_count, state_of, IsCollapsed}
 use Rattle.tableau.proofs.LoneWords.{letter_elsewhere}
-use Rattle.tableau.proofs.KeptRows.{Keeps, inside, kept_size, code_long, outcome_owed, measures}
+use Rattle.tableau.proofs.KeptRows.{Keeps, inside, lone_size, lone_word, lone_long, lone_coded, code_long, outcome_owed, measures}
 use Rattle.tableau.proofs.SeenOutcomes.{seen}
 use Rattle.tableau.proofs.tableau.Tableau.measure.Given.{Over}
 use Rattle.tableau.proofs.tableau.Tableau.measure.Goals as goal
-use Rattle.tableau.proofs.tableau.Tableau.measure.Goals.{After-encode_letter, After-measure_code, In-Some}
+use Rattle.tableau.proofs.tableau.Tableau.measure.Goals.{After-measure_code, In-Some}
 
 pub index-requires : goal.index-requires
 index-requires g c = subst (λ m. c.args.qubit < m) (sym c.self.inside.rows.ok.0) (inside c.self.inside.rows.items c.args.self.now c.self.invariant.0 c.self.view_is c.args.qubit c.requires)
-
-pub encode_letter-requires-clause-inside : goal.encode_letter-requires-clause-inside
-encode_letter-requires-clause-inside g c = inside c.self.inside.rows.items c.args.self.now c.self.invariant.0 c.self.view_is c.args.qubit c.requires
-
-pub encode_letter-requires-clause-word : goal.encode_letter-requires-clause-word
-encode_letter-requires-clause-word g c = c.self.invariant.2.x
-
-pub encode_letter-requires-clause-code : goal.encode_letter-requires-clause-code
-encode_letter-requires-clause-code g c = c.self.invariant.1.x
-
-size : (g : Over) (c : After-encode_letter g) → length (lone_letter (row_count c.args.self.now) c.args.qubit c.args.letter) ≡ length c.self.inside.rows.items
-size g c = length-lone_letter (row_count c.args.self.now) c.args.qubit c.args.letter ∙ sym (kept_size c.self.inside.rows.items c.args.self.now c.self.invariant.0 c.self.view_is)
-
--- the spare words hold the letter's word and its code
-word_is : (g : Over) (c : After-encode_letter g) → c.encode_letter.new.word.letters ≡ lone_letter (row_count c.args.self.now) c.args.qubit c.args.letter
-word_is g c = ap (λ w. w.letters) c.encode_letter.ensures.word ∙ ap (λ k. lone_letter k c.args.qubit c.args.letter) (kept_size c.self.inside.rows.items c.args.self.now c.self.invariant.0 c.self.view_is)
-
-code_is : (g : Over) (c : After-encode_letter g) → c.encode_letter.new.code ≡ code_of (length c.self.inside.rows.items) c.self.inside.rows.items (lone_letter (row_count c.args.self.now) c.args.qubit c.args.letter)
-code_is g c = c.encode_letter.ensures.code ∙ ap (λ k. code_of (length c.self.inside.rows.items) c.self.inside.rows.items (lone_letter k c.args.qubit c.args.letter)) (kept_size c.self.inside.rows.items c.args.self.now c.self.invariant.0 c.self.view_is)
 
 -- what is owed where its sign is seen, and the rows stay
 seen_owed : (g : Over) (c : In-Some g) → IsCollapsed c.args.self.now c.args.self.now (lone_letter (row_count c.args.self.now) c.args.qubit c.args.letter) c.args.coin c.in-Some.outcome None
@@ -47,50 +27,45 @@ returns-in-Some-clause-outcome g c = (seen_owed g (goal.at.returns-in-Some-claus
 pub returns-in-Some-clause-state : goal.returns-in-Some-clause-state
 returns-in-Some-clause-state g c = (seen_owed g (goal.at.returns-in-Some-clause-state g c).In-Some).state_is
 
+pub encode_letter-requires-clause-inside : goal.encode_letter-requires-clause-inside
+encode_letter-requires-clause-inside g c = inside c.self.inside.rows.items c.args.self.now c.self.invariant.0 c.self.view_is c.args.qubit c.requires
+
+pub encode_letter-requires-clause-word : goal.encode_letter-requires-clause-word
+encode_letter-requires-clause-word g c = c.self.invariant.2.x
+
+pub encode_letter-requires-clause-code : goal.encode_letter-requires-clause-code
+encode_letter-requires-clause-code g c = c.self.invariant.1.x
+
 pub measure_code-requires-clause-word : goal.measure_code-requires-clause-word
-measure_code-requires-clause-word g c =
-    let here = (goal.at.measure_code-requires-clause-word g c).After-encode_letter in
-    ap length (word_is g here) ∙ size g here
+measure_code-requires-clause-word g c = lone_long c.self.inside.rows.items c.args.self.now c.self.invariant.0 c.self.view_is c.args.qubit c.args.letter _ c.encode_letter.ensures.word
+
+pub measure_code-requires-clause-code : goal.measure_code-requires-clause-code
+measure_code-requires-clause-code g c = record { x = code_long c.self.inside.rows.items c.args.self.now c.self.invariant.0 c.self.view_is (lone_letter (row_count c.args.self.now) c.args.qubit c.args.letter) c.args.coin (lone_size c.self.inside.rows.items c.args.self.now c.self.invariant.0 c.self.view_is c.args.qubit c.args.letter) c.encode_letter.new.code (lone_coded c.self.inside.rows.items c.args.self.now c.self.invariant.0 c.self.view_is c.args.qubit c.args.letter _ c.encode_letter.ensures.code); z = c.self.invariant.1.z }
+
+pub measure_code-requires-clause-of_word : goal.measure_code-requires-clause-of_word
+measure_code-requires-clause-of_word g c = lone_coded c.self.inside.rows.items c.args.self.now c.self.invariant.0 c.self.view_is c.args.qubit c.args.letter _ c.encode_letter.ensures.code ∙ ap (code_of (length c.self.inside.rows.items) c.self.inside.rows.items) (sym (lone_word c.self.inside.rows.items c.args.self.now c.self.invariant.0 c.self.view_is c.args.qubit c.args.letter _ c.encode_letter.ensures.word))
 
 pub measure_code-requires-clause-only : goal.measure_code-requires-clause-only
 measure_code-requires-clause-only g c i apart =
-    ap (λ letters. letter_at letters i) (word_is g (goal.at.measure_code-requires-clause-only g c).After-encode_letter)
-    ∙ letter_elsewhere (row_count c.args.self.now) c.args.qubit i c.args.letter apart
-
-pub measure_code-requires-clause-code : goal.measure_code-requires-clause-code
-measure_code-requires-clause-code g c =
-    let here = (goal.at.measure_code-requires-clause-code g c).After-encode_letter in
-    record { x = code_long c.self.inside.rows.items c.args.self.now c.self.invariant.0 c.self.view_is (lone_letter (row_count c.args.self.now) c.args.qubit c.args.letter) c.args.coin (size g here) c.encode_letter.new.code (code_is g here); z = c.self.invariant.1.z }
-
-pub measure_code-requires-clause-of_word : goal.measure_code-requires-clause-of_word
-measure_code-requires-clause-of_word g c =
-    let here = (goal.at.measure_code-requires-clause-of_word g c).After-encode_letter in
-    code_is g here ∙ ap (code_of (length c.self.inside.rows.items) c.self.inside.rows.items) (sym (word_is g here))
+    ap (λ letters. letter_at letters i) (lone_word c.self.inside.rows.items c.args.self.now c.self.invariant.0 c.self.view_is c.args.qubit c.args.letter _ c.encode_letter.ensures.word) ∙ letter_elsewhere (row_count c.args.self.now) c.args.qubit i c.args.letter apart
 
 -- what the measurement owes
 owed : (g : Over) (c : After-measure_code g) → Keeps (length c.self.inside.rows.items) c.args.self.now c.measure_code.new.rows.items (collapsed (lone_letter (row_count c.args.self.now) c.args.qubit c.args.letter) c.args.coin (state_of c.args.self.now))
-owed g c = measures c.self.inside.rows.items c.args.self.now c.self.invariant.0 c.self.view_is (lone_letter (row_count c.args.self.now) c.args.qubit c.args.letter) c.args.coin
-    (length-lone_letter (row_count c.args.self.now) c.args.qubit c.args.letter ∙ sym (kept_size c.self.inside.rows.items c.args.self.now c.self.invariant.0 c.self.view_is)) c.encode_letter.new.code
-    (c.encode_letter.ensures.code ∙ ap (λ k. code_of (length c.self.inside.rows.items) c.self.inside.rows.items (lone_letter k c.args.qubit c.args.letter)) (kept_size c.self.inside.rows.items c.args.self.now c.self.invariant.0 c.self.view_is)) c.measure_code.new.rows.items c.measure_code.ensures.rows
+owed g c = measures c.self.inside.rows.items c.args.self.now c.self.invariant.0 c.self.view_is (lone_letter (row_count c.args.self.now) c.args.qubit c.args.letter) c.args.coin (lone_size c.self.inside.rows.items c.args.self.now c.self.invariant.0 c.self.view_is c.args.qubit c.args.letter) c.encode_letter.new.code (lone_coded c.self.inside.rows.items c.args.self.now c.self.invariant.0 c.self.view_is c.args.qubit c.args.letter _ c.encode_letter.ensures.code) c.measure_code.new.rows.items c.measure_code.ensures.rows
 
 pub invariant_of-self : goal.invariant_of-self
 invariant_of-self g c =
-    let at = goal.at.invariant_of-self g c in
-    let kept = owed g at.After-measure_code in
-    let here = at.After-encode_letter in (
+    let kept = owed g (goal.at.invariant_of-self g c).After-measure_code in (
       kept.tableau,
       kept.long _ c.measure_code.ensures.code,
-      kept.long (c.encode_letter.new.word, c.self.inside.second.1) (record { x = ap length (word_is g here) ∙ size g here; z = c.self.invariant.2.z }),
+      kept.long (c.encode_letter.new.word, c.self.inside.second.1) (record { x = lone_long c.self.inside.rows.items c.args.self.now c.self.invariant.0 c.self.view_is c.args.qubit c.args.letter _ c.encode_letter.ensures.word; z = c.self.invariant.2.z }),
     )
 
 pub returns-clause-len : goal.returns-clause-len
 returns-clause-len g c = (owed g (goal.at.returns-clause-len g c).After-measure_code).len
 
 pub returns-clause-outcome : goal.returns-clause-outcome
-returns-clause-outcome g c =
-    let here = (goal.at.returns-clause-outcome g c).After-encode_letter in
-    outcome_owed c.self.inside.rows.items c.args.self.now c.self.invariant.0 c.self.view_is (lone_letter (row_count c.args.self.now) c.args.qubit c.args.letter) c.args.coin (size g here) c.encode_letter.new.code (code_is g here)
-    c.measure_code.result c.measure_code.ensures.outcome
+returns-clause-outcome g c = outcome_owed c.self.inside.rows.items c.args.self.now c.self.invariant.0 c.self.view_is (lone_letter (row_count c.args.self.now) c.args.qubit c.args.letter) c.args.coin (lone_size c.self.inside.rows.items c.args.self.now c.self.invariant.0 c.self.view_is c.args.qubit c.args.letter) c.encode_letter.new.code (lone_coded c.self.inside.rows.items c.args.self.now c.self.invariant.0 c.self.view_is c.args.qubit c.args.letter _ c.encode_letter.ensures.code) c.measure_code.result c.measure_code.ensures.outcome
 
 pub returns-clause-state : goal.returns-clause-state
 returns-clause-state g c = (owed g (goal.at.returns-clause-state g c).After-measure_code).state_is

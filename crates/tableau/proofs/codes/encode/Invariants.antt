@@ -1,7 +1,7 @@
 use Rattle.std.proofs.Common.{◌≡◌, length}
 use Rattle.tableau.specs.private.EncodingSteps.{code_of}
 use Rattle.tableau.proofs.FirstLetters.{first_letters}
-use Rattle.tableau.proofs.collapse.encode.Given as goal
+use Rattle.tableau.proofs.codes.encode.Given as goal
 
 abbrev pub invariant-loop-qubit : goal.invariant-loop-qubit
 invariant-loop-qubit g l = l.code ≡ code_of (length l.rows.items) l.rows.items (first_letters l.qubit l.word.letters)

@@ -6,7 +6,7 @@ use Rattle.tableau.specs.private.Encoding.{HasLength, word_of}
 use Rattle.tableau.specs.private.EncodingSteps.{lone}
 use Rattle.tableau.proofs.PairWords.{pair_size, pair_read}
 use Rattle.tableau.proofs.RowMaps.{row_encoded}
-use Rattle.tableau.proofs.collapse.encode_letter.Goals as goal
+use Rattle.tableau.proofs.codes.encode_letter.Goals as goal
 
 pub set_letter-requires : goal.set_letter-requires
 set_letter-requires g c =

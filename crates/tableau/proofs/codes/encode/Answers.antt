@@ -4,7 +4,7 @@ use Rattle.pauli_word.specs.Groups.{identity_word}
 use Rattle.tableau.specs.private.EncodingSteps.{code_of}
 use Rattle.tableau.proofs.FirstLetters.{first-all}
 use Rattle.tableau.proofs.PairWords.{encode_size, encode_commutes, encode_more}
-use Rattle.tableau.proofs.collapse.encode.Goals as goal
+use Rattle.tableau.proofs.codes.encode.Goals as goal
 
 pub loop-qubit-init : goal.loop-qubit-init
 loop-qubit-init g c =
