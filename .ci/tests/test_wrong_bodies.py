@@ -16,9 +16,8 @@ mkdir -p out/rlib/${PWD##*/}.rlib
 """
 
 # Proves the functions named by --only, each by the word of its body: `wrong` has its own answers refused, `open` has a goal that no
-# search closes, `lost` has an answer that rests on what it calls, `renamed` one that names what is
-# gone, `unread` can't be read. What calls a function that isn't
-# proved has no proof, and what a function calls is proved too.
+# search closes, `lost` has an answer that rests on what it calls, `renamed` one that names what is gone, `unread` can't be read.
+# What calls a function that isn't proved has no proof, and what a function calls is proved too.
 PROVER = """#!{python}
 import os, re, sys
 words = sys.argv[1:]
@@ -122,6 +121,12 @@ class TriesWrongBodies(Case):
         said = self.assert_ends("1 passed, 1 failed")
         self.assertIn("low/first_lazy.edit: NOT REFUSED: part::first: proved\n", said)
         self.assertIn("low/second_wrong.edit: refused", said)
+
+    def test_an_unsafe_function_is_found(self):
+        self.write(f"{self.top}/crates/low/src/part.rt", PART + "unsafe fn last() { right }\n")
+        self.edit("last", "wrong")
+        self.assert_ends("1 passed, 0 failed")
+        self.assertEqual(self.checks, ["low last"])
 
     def test_bodies_of_one_function_are_tried_apart(self):
         self.edit("first", "wrong")
