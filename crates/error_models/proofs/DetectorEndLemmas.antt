@@ -6,7 +6,7 @@ use Rattle.std.proofs.lemmas.Bool.Decides.{leb_tells}
 use Rattle.std.proofs.lemmas.Fmt.{decimal_digit, decimal_step}
 use Rattle.std.proofs.lemmas.List.{drop-set-add, get_or-drop, same_from_push}
 use Rattle.error_models.specs.private.DetectorEnds.{HasEnd}
-use Rattle.error_models.proofs.LastDigits.{Digits, digits_of, last_falls}
+use Rattle.streams.proofs.LastDigits.{Digits, digits_of, last_falls}
 
 -- where the last digit stands
 record IsLast (n len : ℕ) (bytes front : List ℕ) (last : ℕ) : Type 0 where

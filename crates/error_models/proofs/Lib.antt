@@ -1,7 +1,6 @@
 mod DetectorEndLemmas
 mod ErrorLineLemmas
 mod HeldTextLemmas
-mod LastDigits
 mod NameLemmas
 mod ShortLineLemmas
 mod TextLemmas

@@ -3,7 +3,6 @@ ghost use Rattle.std.specs.Prelude.{◌≡◌, ◌≤◌, ◌+◌, ◌++◌, dro
 ghost use Rattle.error_models.specs.private.DetectorEnds.{end_text, HasEnd};
 
 use crate::short_lines::{number_before, text_before};
-use std::marker::Model;
 
 /// How many bytes are kept for the end of a line. It has at most fourteen; so many are copied at once.
 pub(crate) const END: usize = 16;
@@ -19,24 +18,14 @@ pub(crate) struct DetectorEnd {
     detector: u32,
     bytes: [u8; END],
     len: usize,
-}
-
-impl Model for DetectorEnd {
-    ghost use Rattle.std.specs.Prelude.{ℕ};
-    ghost use Rattle.error_models.specs.private.DetectorEnds.{HasEnd};
-
-    ghost Value = { ℕ };
-
-    ghost view = { λ e. e.detector };
-
-    ghost invariant = { λ e. HasEnd e.detector e.len e.bytes };
+    ghost written: { HasEnd detector len bytes },
 }
 
 impl DetectorEnd {
     /// That of a detector.
     #[inline(never)]
     pub(crate) fn new(detector: u32) -> Self
-        ensures { result ≡ detector }
+        ensures { result.detector ≡ detector }
     {
         let mut bytes = [0; END];
         let at = text_before(&mut bytes, END, b"\n");
@@ -65,7 +54,7 @@ impl DetectorEnd {
 
     #[inline(always)]
     fn turn_to(&mut self, detector: u32)
-        ensures { self.new ≡ detector }
+        ensures { self.new.detector ≡ detector }
     {
         if self.detector != detector {
             *self = DetectorEnd::new(detector);
@@ -78,7 +67,7 @@ impl DetectorEnd {
         requires room { END ≤ end }
         ensures within { result ≤ end }
         ensures least { end ≤ result + END }
-        ensures written { drop result buffer.new ≡ end_text self.now ++ drop end buffer.old }
+        ensures written { drop result buffer.new ≡ end_text self.now.detector ++ drop end buffer.old }
     {
         // A local copy cannot overlap the buffer, so no check is made at run time.
         let bytes = self.bytes;

@@ -4,7 +4,6 @@ ghost use Rattle.fault_list.specs.private.KeptTexts.{HasDigits};
 
 use crate::put::put_first;
 use itoa::write_digits;
-use std::marker::Model;
 
 /// How many bytes are kept for the digits. A number of 32 bits has fewer; so many are copied at once.
 pub(crate) const DIGITS: usize = 16;
@@ -16,22 +15,12 @@ pub(crate) struct Counter {
     number: u64,
     digits: [u8; DIGITS],
     len: usize,
-}
-
-impl Model for Counter {
-    ghost use Rattle.std.specs.Prelude.{ℕ};
-    ghost use Rattle.fault_list.specs.private.KeptTexts.{HasDigits};
-
-    ghost Value = { ℕ };
-
-    ghost view = { λ c. c.number };
-
-    ghost invariant = { λ c. HasDigits c.number c.len c.digits };
+    ghost written: { HasDigits number len digits },
 }
 
 impl Counter {
     pub(crate) fn new() -> Self
-        ensures { result ≡ 0 }
+        ensures { result.number ≡ 0 }
     {
         let mut digits = [0; DIGITS];
         digits[0] = b'0';
@@ -58,7 +47,7 @@ impl Counter {
 
     #[inline(always)]
     fn turn_to(&mut self, number: u32)
-        ensures { self.new ≡ number }
+        ensures { self.new.number ≡ number }
     {
         if self.number != number as u64 {
             self.make(number);
@@ -67,7 +56,7 @@ impl Counter {
 
     #[inline(never)]
     fn make(&mut self, number: u32)
-        ensures { self.new ≡ number }
+        ensures { self.new.number ≡ number }
     {
         let (digits, len) = digits_of(number);
         self.number = number as u64;
@@ -78,7 +67,7 @@ impl Counter {
     // Turns to the next number, where its digits are found easily.
     #[inline(always)]
     fn count_up(&mut self)
-        requires { self.old ≤ u32.MAX }
+        requires { self.old.number ≤ u32.MAX }
     {
         let last = self.len - 1;
         if self.digits[last] < b'9' {

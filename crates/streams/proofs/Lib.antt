@@ -1,3 +1,4 @@
 pub mod Finishing
 pub mod Items
+pub mod LastDigits
 pub mod Pushing

@@ -43,7 +43,7 @@ last_falls n ds d small is high = elim (leb_tells (suc n) 10) [
 ]
 
 -- a last digit that isn't nine becomes that of the number after
-last_rises : (n : ℕ) (ds : List ℕ) (d : ℕ) → n < 2 ^ 32 → ds ++ d ∷ [] ≡ decimal n → d < 57 → ds ++ (d + 1) ∷ [] ≡ decimal (n + 1)
+pub last_rises : (n : ℕ) (ds : List ℕ) (d : ℕ) → n < 2 ^ 32 → ds ++ d ∷ [] ≡ decimal n → d < 57 → ds ++ (d + 1) ∷ [] ≡ decimal (n + 1)
 last_rises n ds d small is low = elim (leb_tells (suc n) 10) [
   | inl one ↦
       let parts = same_from_push ds [] d (48 + n) (is ∙ decimal_digit n (omega (arith, one.1))) in
