@@ -1,6 +1,6 @@
 //! Descending lists: changed where they stand, merged, and listed in ascending order.
-ghost use Rattle.std.specs.Prelude.{◌≡◌, ◌<◌, ◌≤◌, ◌+◌, ◌-◌, ◌∷◌, ◌++◌, [], ℕ, take, true, insert, length, remove, reverse, slice_index, IfSome, OnOk, OnErr};
-ghost use Rattle.trackers.specs.private.Sets.{xor_sets, DescendsBelow};
+ghost use Rattle.std.specs.Prelude.{◌≡◌, ◌<◌, ◌≤◌, ◌+◌, ◌-◌, ◌++◌, [], ℕ, take, true, insert, length, remove, reverse, slice_index, IfSome, OnOk, OnErr};
+ghost use Rattle.trackers.specs.private.Sets.{xor_sets, DescendsBelow, IsToggled};
 
 use smallvec::SmallVec;
 use std::alloc::{AllocError, Allocator};
@@ -62,10 +62,7 @@ pub(crate) fn toggle_in<A: Allocator + Copy>(
     items: &mut SmallVec<u32, 4, A>,
     target: u32,
 ) -> Result<(), AllocError>
-    ensures ok { OnOk result
-        ((m : ℕ)
-        → DescendsBelow m items.old.items
-        → items.new.items ≡ xor_sets (target ∷ []) items.old.items) }
+    ensures ok { OnOk result (IsToggled target items.old.items items.new.items) }
     ensures err { OnErr result (items.new.items ≡ items.old.items) }
 {
     if !items.spilled() && items.len() < 4 && comes_last(items.as_slice(), target) {
@@ -81,10 +78,7 @@ fn toggle_anywhere<A: Allocator + Copy>(
     items: &mut SmallVec<u32, 4, A>,
     target: u32,
 ) -> Result<(), AllocError>
-    ensures ok { OnOk result
-        ((m : ℕ)
-        → DescendsBelow m items.old.items
-        → items.new.items ≡ xor_sets (target ∷ []) items.old.items) }
+    ensures ok { OnOk result (IsToggled target items.old.items items.new.items) }
     ensures err { OnErr result (items.new.items ≡ items.old.items) }
 {
     if comes_last(items.as_slice(), target) {
@@ -110,10 +104,7 @@ fn toggle_among<A: Allocator + Copy>(
     items: &mut SmallVec<u32, 4, A>,
     target: u32,
 ) -> Result<(), AllocError>
-    ensures ok { OnOk result
-        ((m : ℕ)
-        → DescendsBelow m items.old.items
-        → items.new.items ≡ xor_sets (target ∷ []) items.old.items) }
+    ensures ok { OnOk result (IsToggled target items.old.items items.new.items) }
     ensures err { OnErr result (items.new.items ≡ items.old.items) }
 {
     let place = place_among(items.as_slice(), target);
