@@ -61,18 +61,11 @@ module _ (rows : List Pair) (old : Rows) (is : IsTableau (length rows) rows) (sa
       ∙ (sym (row_encoded n rows is q a h) ∙ ap (λ k. code_of n rows (lone_letter k q a)) kept_size))
 
   -- a letter's word and its code, as they were made of as many letters as there are rows kept
-  module _ (q : ℕ) (a : Letter) where
-    pub lone_size : length (lone_letter (row_count old) q a) ≡ n
-    lone_size = length-lone_letter (row_count old) q a ∙ sym kept_size
+  pub lone_word : (q : ℕ) (a : Letter) (word : Signed) → word ≡ lone n q a → word.letters ≡ lone_letter (row_count old) q a
+  lone_word q a word word_is = ap (λ w. w.letters) word_is ∙ ap (λ k. lone_letter k q a) kept_size
 
-    pub lone_word : (word : Signed) → word ≡ lone n q a → word.letters ≡ lone_letter (row_count old) q a
-    lone_word word word_is = ap (λ w. w.letters) word_is ∙ ap (λ k. lone_letter k q a) kept_size
-
-    pub lone_long : (word : Signed) → word ≡ lone n q a → length word.letters ≡ n
-    lone_long word word_is = ap length (lone_word word word_is) ∙ lone_size
-
-    pub lone_coded : (code : Signed) → code ≡ code_of n rows (lone_letter n q a) → code ≡ code_of n rows (lone_letter (row_count old) q a)
-    lone_coded code code_is = code_is ∙ ap (λ k. code_of n rows (lone_letter k q a)) kept_size
+  pub lone_coded : (q : ℕ) (a : Letter) (word code : Signed) → word ≡ lone n q a → code ≡ code_of n rows word.letters → code ≡ code_of n rows (lone_letter (row_count old) q a)
+  lone_coded q a word code word_is code_is = code_is ∙ ap (code_of n rows) (lone_word q a word word_is)
 
   -- new rows kept
   module _ (new : List Pair) (new_is : IsTableau n new) where
@@ -100,12 +93,12 @@ module _ (rows : List Pair) (old : Rows) (is : IsTableau (length rows) rows) (sa
     state_known s known p h = state_there p h ∙ known p (size_there p h)
 
   -- a collapse of w
-  module _ (w : List Letter) (coin : Bool) (size : length w ≡ n) (code : Signed) (code_is : code ≡ code_of n rows w) where
+  module _ (w : List Letter) (coin : Bool) (sized : length w ≡ row_count old) (code : Signed) (code_is : code ≡ code_of n rows w) where
     abbrev P : Signed
     P = code_of n rows w
 
-    pub code_long : length code.letters ≡ n
-    code_long = ap (λ c. length c.letters) code_is ∙ P_size n rows is w coin size
+    size : length w ≡ n
+    size = sized ∙ sym kept_size
 
     module _ (k : ℕ) (e : lowest_X_or_Y P.letters ≡ Some k) where
       at : (k < n) × (letters_clash (letter_at P.letters k) Z ≡ true)

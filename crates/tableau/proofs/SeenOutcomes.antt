@@ -9,7 +9,7 @@ use Rattle.tableau.specs.private.Decoding.{rows_seen}
 use Rattle.tableau.specs.private.Encoding.{Pair, word_of, IsTableau}
 use Rattle.tableau.specs.private.EncodingSteps.{after_collapse, code_of, collapsed_at, outcome_at, IsDiagonal}
 use Rattle.tableau.specs.Rows.{Rows, row_count}
-use Rattle.tableau.proofs.KeptRows.{Collapses, kept_size, lone_code, collapses}
+use Rattle.tableau.proofs.KeptRows.{Collapses, lone_code, collapses}
 
 module _ (rows : List Pair) (old : Rows) (is : IsTableau (length rows) rows) (same : rows_seen rows ≡ old) (q : ℕ) (h : q < length rows) (r : Pair) (r_is : r ≡ get_or rows q r) (a : Letter) (coin minus : Bool) (diagonal : IsDiagonal (word_of (length rows) r a) minus) where
   abbrev w : List Letter
@@ -17,9 +17,6 @@ module _ (rows : List Pair) (old : Rows) (is : IsTableau (length rows) rows) (sa
 
   abbrev code : Signed
   code = with_sign_changed false (word_of (length rows) r a)
-
-  size : length w ≡ length rows
-  size = length-lone_letter (row_count old) q a ∙ sym (kept_size rows old is same)
 
   code_is : code ≡ code_of (length rows) rows w
   code_is = lone_code rows old is same q h r r_is (length rows) refl a code refl
@@ -30,7 +27,7 @@ module _ (rows : List Pair) (old : Rows) (is : IsTableau (length rows) rows) (sa
   -- what the collapse owes, whose rows stay
   pub seen : Collapses (length rows) old rows w coin minus None
   seen =
-      collapses rows old is same w coin size code code_is rows stays minus
+      collapses rows old is same w coin (length-lone_letter (row_count old) q a) code code_is rows stays minus
       (diagonal.sign ∙ sym (ap (λ o. outcome_at o code coin) diagonal.lowest)) None (sym diagonal.lowest)
 
 -- a pair's own words, as those of letters

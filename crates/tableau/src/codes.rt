@@ -1,51 +1,53 @@
 //! The codes of letters and words: what they are under the map of the inverse circuit. A word whose code has only I and Z is
 //! decided.
 ghost use Rattle.std.specs.Prelude.{◌≡◌, ◌<◌, ℕ, length, IfSome};
-ghost use Rattle.pauli_word.specs.Words.{lone_letter};
-ghost use Rattle.tableau.specs.private.Encoding.{IsTableau, word_of};
+ghost use Rattle.tableau.specs.private.Encoding.{HasLength, IsTableau, word_of};
 ghost use Rattle.tableau.specs.private.EncodingSteps.{lone, code_of, IsDiagonal};
 
 use crate::pairs::{Pair, multiply, set_word};
 use pauli_word::{Letter, Word};
 use std::alloc::Allocator;
 
-/// Makes `code` the code of a word's letters.
+/// Makes `code.0` the code of a word's letters.
 pub(crate) fn encode<A: Allocator + Copy>(
     rows: &Vec<Pair<A>, A>,
     word: &Word<A>,
-    code: &mut Word<A>,
+    code: &mut Pair<A>,
 )
     requires tableau { IsTableau (length rows.now.items) rows.now.items }
     requires word { length word.now.letters ≡ length rows.now.items }
-    requires code { length code.old.letters ≡ length rows.now.items }
-    ensures { code.new ≡ code_of (length rows.now.items) rows.now.items word.now.letters }
+    requires code { HasLength (length rows.now.items) code.old }
+    ensures code { HasLength (length rows.now.items) code.new }
+    ensures of_word { code.new.0
+        ≡ code_of (length rows.now.items) rows.now.items word.now.letters }
 {
-    code.clear();
+    code.0.clear();
     for qubit in 0..rows.len() {
-        multiply(code, &rows[qubit], word.letter(qubit));
+        multiply(&mut code.0, &rows[qubit], word.letter(qubit));
     }
 }
 
-/// Makes `word` a letter at a qubit, and `code` its code.
+/// Makes `word.0` a letter at a qubit, and `code.0` its code.
 pub(crate) fn encode_letter<A: Allocator + Copy>(
     rows: &Vec<Pair<A>, A>,
-    word: &mut Word<A>,
-    code: &mut Word<A>,
+    word: &mut Pair<A>,
+    code: &mut Pair<A>,
     letter: Letter,
     qubit: usize,
 )
     requires tableau { IsTableau (length rows.now.items) rows.now.items }
     requires inside { qubit < length rows.now.items }
-    requires word { length word.old.letters ≡ length rows.now.items }
-    requires code { length code.old.letters ≡ length rows.now.items }
-    ensures word { word.new ≡ lone (length rows.now.items) qubit letter }
-    ensures code { code.new
-        ≡ code_of (length rows.now.items) rows.now.items
-        (lone_letter (length rows.now.items) qubit letter) }
+    requires word { HasLength (length rows.now.items) word.old }
+    requires code { HasLength (length rows.now.items) code.old }
+    ensures word { HasLength (length rows.now.items) word.new }
+    ensures code { HasLength (length rows.now.items) code.new }
+    ensures letter { word.new.0 ≡ lone (length rows.now.items) qubit letter }
+    ensures of_word { code.new.0
+        ≡ code_of (length rows.now.items) rows.now.items word.new.0.letters }
 {
-    word.clear();
-    word.set_letter(qubit, letter);
-    set_word(code, &rows[qubit], letter, false);
+    word.0.clear();
+    word.0.set_letter(qubit, letter);
+    set_word(&mut code.0, &rows[qubit], letter, false);
 }
 
 /// The sign of the word of X or of Z, where it has only I and Z. None doesn't mean that the outcome is random.

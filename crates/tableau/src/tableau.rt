@@ -148,13 +148,7 @@ impl<A: Allocator + Copy> Tableau<A> {
         ensures { IsCollapsed self.old self.new (lone_letter (row_count self.old) qubit letter) coin
             result.0 result.1 }
     {
-        encode_letter(
-            &self.rows,
-            &mut self.second.0,
-            &mut self.first.0,
-            letter,
-            qubit,
-        );
+        encode_letter(&self.rows, &mut self.second, &mut self.first, letter, qubit);
         collapse_code(&mut self.rows, &self.second.0, &mut self.first, coin)
     }
 
@@ -164,7 +158,7 @@ impl<A: Allocator + Copy> Tableau<A> {
         requires { length word.now.letters ≡ row_count self.old }
         ensures { IsCollapsed self.old self.new word.now.letters coin result.0 result.1 }
     {
-        encode(&self.rows, word, &mut self.first.0);
+        encode(&self.rows, word, &mut self.first);
         collapse_code(&mut self.rows, word, &mut self.first, coin)
     }
 
@@ -178,13 +172,7 @@ impl<A: Allocator + Copy> Tableau<A> {
         if let Some(_) = sign_seen(&self.rows[qubit], letter) {
             return None;
         }
-        encode_letter(
-            &self.rows,
-            &mut self.second.0,
-            &mut self.first.0,
-            letter,
-            qubit,
-        );
+        encode_letter(&self.rows, &mut self.second, &mut self.first, letter, qubit);
         self.first.0.lowest_x_or_y()
     }
 
@@ -194,7 +182,7 @@ impl<A: Allocator + Copy> Tableau<A> {
         ensures same { self.new ≡ self.old }
         ensures row { NamesRandom self.old word.now.letters result }
     {
-        encode(&self.rows, word, &mut self.first.0);
+        encode(&self.rows, word, &mut self.first);
         self.first.0.lowest_x_or_y()
     }
 
@@ -210,13 +198,7 @@ impl<A: Allocator + Copy> Tableau<A> {
         if let Some(outcome) = sign_seen(&self.rows[qubit], letter) {
             return outcome;
         }
-        encode_letter(
-            &self.rows,
-            &mut self.second.0,
-            &mut self.first.0,
-            letter,
-            qubit,
-        );
+        encode_letter(&self.rows, &mut self.second, &mut self.first, letter, qubit);
         measure_code(
             &mut self.rows,
             &self.second.0,
@@ -233,7 +215,7 @@ impl<A: Allocator + Copy> Tableau<A> {
         ensures outcome { result ≡ outcome (state_of self.old) word.now.letters coin }
         ensures state { HasState self.new (collapsed word.now.letters coin (state_of self.old)) }
     {
-        encode(&self.rows, word, &mut self.first.0);
+        encode(&self.rows, word, &mut self.first);
         measure_code(&mut self.rows, word, None, &mut self.first, coin)
     }
 

@@ -1,30 +1,19 @@
-use Rattle.std.proofs.Common.{◌≡◌, length, sym, ◌∙◌}
-use Rattle.tableau.proofs.KeptRows.{Collapses, kept_size, code_long, collapses}
+use Rattle.std.proofs.Common.{length, sym, ◌∙◌}
+use Rattle.tableau.proofs.KeptRows.{Collapses, kept_size, collapses}
 use Rattle.tableau.proofs.tableau.Tableau.collapse_word.Given.{Over}
 use Rattle.tableau.proofs.tableau.Tableau.collapse_word.Goals as goal
-use Rattle.tableau.proofs.tableau.Tableau.collapse_word.Goals.{After-encode, After-collapse_code}
+use Rattle.tableau.proofs.tableau.Tableau.collapse_word.Goals.{After-collapse_code}
 
 pub encode-requires-clause-word : goal.encode-requires-clause-word
 encode-requires-clause-word g c = c.requires ∙ sym (kept_size c.self.inside.rows.items c.args.self.now c.self.invariant.0 c.self.view_is)
 
-size : (g : Over) (c : After-encode g) → length c.args.word.now.letters ≡ length c.self.inside.rows.items
-size g c = c.requires ∙ sym (kept_size c.self.inside.rows.items c.args.self.now c.self.invariant.0 c.self.view_is)
-
 pub collapse_code-requires-clause-word : goal.collapse_code-requires-clause-word
-collapse_code-requires-clause-word g c = size g (goal.at.collapse_code-requires-clause-word g c).After-encode
-
-pub collapse_code-requires-clause-code : goal.collapse_code-requires-clause-code
-collapse_code-requires-clause-code g c =
-    let here = (goal.at.collapse_code-requires-clause-code g c).After-encode in
-    record {
-      x = code_long c.self.inside.rows.items c.args.self.now c.self.invariant.0 c.self.view_is c.args.word.now.letters c.args.coin (size g here) c.encode.new.code c.encode.ensures;
-      z = c.self.invariant.1.z;
-    }
+collapse_code-requires-clause-word g c = c.requires ∙ sym (kept_size c.self.inside.rows.items c.args.self.now c.self.invariant.0 c.self.view_is)
 
 -- what the collapse owes
 owed : (g : Over) (c : After-collapse_code g) → Collapses (length c.self.inside.rows.items) c.args.self.now c.collapse_code.new.rows.items c.args.word.now.letters c.args.coin c.collapse_code.result.0 c.collapse_code.result.1
 owed g c =
-    collapses c.self.inside.rows.items c.args.self.now c.self.invariant.0 c.self.view_is c.args.word.now.letters c.args.coin (c.requires ∙ sym (kept_size c.self.inside.rows.items c.args.self.now c.self.invariant.0 c.self.view_is)) c.encode.new.code c.encode.ensures
+    collapses c.self.inside.rows.items c.args.self.now c.self.invariant.0 c.self.view_is c.args.word.now.letters c.args.coin c.requires c.encode.new.code.0 c.encode.ensures.of_word
     c.collapse_code.new.rows.items c.collapse_code.ensures.rows c.collapse_code.result.0 c.collapse_code.ensures.outcome c.collapse_code.result.1 c.collapse_code.ensures.row
 
 pub invariant_of-self : goal.invariant_of-self

@@ -1,11 +1,12 @@
 -- A sign that is seen is the outcome; otherwise the letter's code is made, and measured.
-use Rattle.std.proofs.Common.{◌<◌, length, None, ap, sym, subst, ◌∙◌}
+use Rattle.std.proofs.Common.{◌≡◌, ◌<◌, length, None, ap, sym, subst, ◌∙◌}
 use Rattle.pauli_word.specs.States.{collapsed}
 use Rattle.pauli_word.specs.Words.{letter_at, lone_letter}
+use Rattle.pauli_word.proofs.LoneLetters.{length-lone_letter}
 use Rattle.tableau.specs.private.EncodingSteps.{code_of}
 use Rattle.tableau.specs.Rows.{row_count, state_of, IsCollapsed}
 use Rattle.tableau.proofs.LoneWords.{letter_elsewhere}
-use Rattle.tableau.proofs.KeptRows.{Keeps, inside, lone_size, lone_word, lone_long, lone_coded, code_long, outcome_owed, measures}
+use Rattle.tableau.proofs.KeptRows.{Keeps, inside, lone_word, lone_coded, outcome_owed, measures}
 use Rattle.tableau.proofs.SeenOutcomes.{seen}
 use Rattle.tableau.proofs.tableau.Tableau.measure.Given.{Over}
 use Rattle.tableau.proofs.tableau.Tableau.measure.Goals as goal
@@ -30,42 +31,34 @@ returns-in-Some-clause-state g c = (seen_owed g (goal.at.returns-in-Some-clause-
 pub encode_letter-requires-clause-inside : goal.encode_letter-requires-clause-inside
 encode_letter-requires-clause-inside g c = inside c.self.inside.rows.items c.args.self.now c.self.invariant.0 c.self.view_is c.args.qubit c.requires
 
-pub encode_letter-requires-clause-word : goal.encode_letter-requires-clause-word
-encode_letter-requires-clause-word g c = c.self.invariant.2.x
-
-pub encode_letter-requires-clause-code : goal.encode_letter-requires-clause-code
-encode_letter-requires-clause-code g c = c.self.invariant.1.x
-
-pub measure_code-requires-clause-word : goal.measure_code-requires-clause-word
-measure_code-requires-clause-word g c = lone_long c.self.inside.rows.items c.args.self.now c.self.invariant.0 c.self.view_is c.args.qubit c.args.letter _ c.encode_letter.ensures.word
-
-pub measure_code-requires-clause-code : goal.measure_code-requires-clause-code
-measure_code-requires-clause-code g c = record { x = code_long c.self.inside.rows.items c.args.self.now c.self.invariant.0 c.self.view_is (lone_letter (row_count c.args.self.now) c.args.qubit c.args.letter) c.args.coin (lone_size c.self.inside.rows.items c.args.self.now c.self.invariant.0 c.self.view_is c.args.qubit c.args.letter) c.encode_letter.new.code (lone_coded c.self.inside.rows.items c.args.self.now c.self.invariant.0 c.self.view_is c.args.qubit c.args.letter _ c.encode_letter.ensures.code); z = c.self.invariant.1.z }
-
-pub measure_code-requires-clause-of_word : goal.measure_code-requires-clause-of_word
-measure_code-requires-clause-of_word g c = lone_coded c.self.inside.rows.items c.args.self.now c.self.invariant.0 c.self.view_is c.args.qubit c.args.letter _ c.encode_letter.ensures.code ∙ ap (code_of (length c.self.inside.rows.items) c.self.inside.rows.items) (sym (lone_word c.self.inside.rows.items c.args.self.now c.self.invariant.0 c.self.view_is c.args.qubit c.args.letter _ c.encode_letter.ensures.word))
-
 pub measure_code-requires-clause-only : goal.measure_code-requires-clause-only
 measure_code-requires-clause-only g c i apart =
-    ap (λ letters. letter_at letters i) (lone_word c.self.inside.rows.items c.args.self.now c.self.invariant.0 c.self.view_is c.args.qubit c.args.letter _ c.encode_letter.ensures.word) ∙ letter_elsewhere (row_count c.args.self.now) c.args.qubit i c.args.letter apart
+    ap (λ letters. letter_at letters i) (lone_word c.self.inside.rows.items c.args.self.now c.self.invariant.0 c.self.view_is c.args.qubit c.args.letter _ c.encode_letter.ensures.letter) ∙ letter_elsewhere (row_count c.args.self.now) c.args.qubit i c.args.letter apart
+
+-- the letter's code
+coded : (g : Over) (c : After-measure_code g) → c.encode_letter.new.code.0 ≡ code_of (length c.self.inside.rows.items) c.self.inside.rows.items (lone_letter (row_count c.args.self.now) c.args.qubit c.args.letter)
+coded g c = lone_coded c.self.inside.rows.items c.args.self.now c.self.invariant.0 c.self.view_is c.args.qubit c.args.letter _ _ c.encode_letter.ensures.letter c.encode_letter.ensures.of_word
 
 -- what the measurement owes
 owed : (g : Over) (c : After-measure_code g) → Keeps (length c.self.inside.rows.items) c.args.self.now c.measure_code.new.rows.items (collapsed (lone_letter (row_count c.args.self.now) c.args.qubit c.args.letter) c.args.coin (state_of c.args.self.now))
-owed g c = measures c.self.inside.rows.items c.args.self.now c.self.invariant.0 c.self.view_is (lone_letter (row_count c.args.self.now) c.args.qubit c.args.letter) c.args.coin (lone_size c.self.inside.rows.items c.args.self.now c.self.invariant.0 c.self.view_is c.args.qubit c.args.letter) c.encode_letter.new.code (lone_coded c.self.inside.rows.items c.args.self.now c.self.invariant.0 c.self.view_is c.args.qubit c.args.letter _ c.encode_letter.ensures.code) c.measure_code.new.rows.items c.measure_code.ensures.rows
+owed g c =
+    let old = c.args.self.now in
+    measures c.self.inside.rows.items old c.self.invariant.0 c.self.view_is (lone_letter (row_count old) c.args.qubit c.args.letter) c.args.coin (length-lone_letter (row_count old) c.args.qubit c.args.letter)
+    c.encode_letter.new.code.0 (coded g c) c.measure_code.new.rows.items c.measure_code.ensures.rows
 
 pub invariant_of-self : goal.invariant_of-self
 invariant_of-self g c =
-    let kept = owed g (goal.at.invariant_of-self g c).After-measure_code in (
-      kept.tableau,
-      kept.long _ c.measure_code.ensures.code,
-      kept.long (c.encode_letter.new.word, c.self.inside.second.1) (record { x = lone_long c.self.inside.rows.items c.args.self.now c.self.invariant.0 c.self.view_is c.args.qubit c.args.letter _ c.encode_letter.ensures.word; z = c.self.invariant.2.z }),
-    )
+    let kept = owed g (goal.at.invariant_of-self g c).After-measure_code in
+    (kept.tableau, kept.long _ c.measure_code.ensures.code, kept.long _ c.encode_letter.ensures.word)
 
 pub returns-clause-len : goal.returns-clause-len
 returns-clause-len g c = (owed g (goal.at.returns-clause-len g c).After-measure_code).len
 
 pub returns-clause-outcome : goal.returns-clause-outcome
-returns-clause-outcome g c = outcome_owed c.self.inside.rows.items c.args.self.now c.self.invariant.0 c.self.view_is (lone_letter (row_count c.args.self.now) c.args.qubit c.args.letter) c.args.coin (lone_size c.self.inside.rows.items c.args.self.now c.self.invariant.0 c.self.view_is c.args.qubit c.args.letter) c.encode_letter.new.code (lone_coded c.self.inside.rows.items c.args.self.now c.self.invariant.0 c.self.view_is c.args.qubit c.args.letter _ c.encode_letter.ensures.code) c.measure_code.result c.measure_code.ensures.outcome
+returns-clause-outcome g c =
+    let old = c.args.self.now in
+    outcome_owed c.self.inside.rows.items old c.self.invariant.0 c.self.view_is (lone_letter (row_count old) c.args.qubit c.args.letter) c.args.coin (length-lone_letter (row_count old) c.args.qubit c.args.letter)
+    c.encode_letter.new.code.0 (coded g (goal.at.returns-clause-outcome g c).After-measure_code) c.measure_code.result c.measure_code.ensures.outcome
 
 pub returns-clause-state : goal.returns-clause-state
 returns-clause-state g c = (owed g (goal.at.returns-clause-state g c).After-measure_code).state_is

@@ -1,8 +1,9 @@
 -- A sign that is seen is the outcome; otherwise the letter's code is made, which says whether it is random.
 use Rattle.std.proofs.Common.{◌<◌, false, length, sym, subst}
 use Rattle.pauli_word.specs.Words.{lone_letter}
+use Rattle.pauli_word.proofs.LoneLetters.{length-lone_letter}
 use Rattle.tableau.specs.Rows.{row_count}
-use Rattle.tableau.proofs.KeptRows.{inside, lone_size, lone_long, lone_coded, code_long, named}
+use Rattle.tableau.proofs.KeptRows.{inside, lone_coded, named}
 use Rattle.tableau.proofs.SeenOutcomes.{seen}
 use Rattle.tableau.proofs.tableau.Tableau.random_row.Goals as goal
 
@@ -17,18 +18,11 @@ returns-in-Some-clause-row g c =
 pub encode_letter-requires-clause-inside : goal.encode_letter-requires-clause-inside
 encode_letter-requires-clause-inside g c = inside c.self.inside.rows.items c.args.self.now c.self.invariant.0 c.self.view_is c.args.qubit c.requires
 
-pub encode_letter-requires-clause-word : goal.encode_letter-requires-clause-word
-encode_letter-requires-clause-word g c = c.self.invariant.2.x
-
-pub encode_letter-requires-clause-code : goal.encode_letter-requires-clause-code
-encode_letter-requires-clause-code g c = c.self.invariant.1.x
-
-pub invariant_of-self : goal.invariant_of-self
-invariant_of-self g c = (
-  c.self.invariant.0,
-  record { x = code_long c.self.inside.rows.items c.args.self.now c.self.invariant.0 c.self.view_is (lone_letter (row_count c.args.self.now) c.args.qubit c.args.letter) false (lone_size c.self.inside.rows.items c.args.self.now c.self.invariant.0 c.self.view_is c.args.qubit c.args.letter) c.encode_letter.new.code (lone_coded c.self.inside.rows.items c.args.self.now c.self.invariant.0 c.self.view_is c.args.qubit c.args.letter _ c.encode_letter.ensures.code); z = c.self.invariant.1.z },
-  record { x = lone_long c.self.inside.rows.items c.args.self.now c.self.invariant.0 c.self.view_is c.args.qubit c.args.letter _ c.encode_letter.ensures.word; z = c.self.invariant.2.z },
-)
-
 pub returns-clause-row : goal.returns-clause-row
-returns-clause-row g c = named c.self.inside.rows.items c.args.self.now c.self.invariant.0 c.self.view_is (lone_letter (row_count c.args.self.now) c.args.qubit c.args.letter) false (lone_size c.self.inside.rows.items c.args.self.now c.self.invariant.0 c.self.view_is c.args.qubit c.args.letter) c.encode_letter.new.code (lone_coded c.self.inside.rows.items c.args.self.now c.self.invariant.0 c.self.view_is c.args.qubit c.args.letter _ c.encode_letter.ensures.code) c.lowest_x_or_y.result c.lowest_x_or_y.ensures
+returns-clause-row g c =
+    let rows = c.self.inside.rows.items in
+    let old = c.args.self.now in
+    let is = c.self.invariant.0 in
+    named rows old is c.self.view_is (lone_letter (row_count old) c.args.qubit c.args.letter) false (length-lone_letter (row_count old) c.args.qubit c.args.letter)
+    c.encode_letter.new.code.0 (lone_coded rows old is c.self.view_is c.args.qubit c.args.letter _ _ c.encode_letter.ensures.letter c.encode_letter.ensures.of_word)
+    c.lowest_x_or_y.result c.lowest_x_or_y.ensures
