@@ -7,7 +7,6 @@ use Rattle.pauli_word.specs.declared.letter.Letter.{Letter}
 use Rattle.pauli_word.specs.Parity.{exclusive_or}
 use Rattle.pauli_word.specs.States.{State, outcome, collapsed, is_decided}
 use Rattle.pauli_word.specs.Words.{signed, lone_letter}
-use Rattle.pauli_word.proofs.Parities.{exclusive_or-false}
 use Rattle.step_model.specs.declared.step.Term.{Term}
 use Rattle.step_model.specs.Frames.{zero_coins}
 use Rattle.step_model.specs.Listing.{Listing, ListedStep, One, Two, Collapse, Fault, Feedback, measured_word, word_of_terms}
@@ -15,9 +14,7 @@ use Rattle.step_model.specs.Runs.{RunState, start, next, next_coin, after_collap
 use Rattle.step_model.specs.WellFormed.{IsWellFormed, step_fits}
 use Rattle.step_model.proofs.StateIsGroup.{length-measured}
 use Rattle.step_model.proofs.StepNumbers.{length-word_of_terms}
-use Rattle.programs.specs.declared.step.FaultName.{FaultName}
-use Rattle.programs.specs.declared.step.Step.TheVariants as step
-use Rattle.programs.specs.Listed.{listed, measured}
+use Rattle.programs.specs.Listed.{measured}
 use Rattle.forward_sim.specs.private.Kept.{StepKeeps}
 use Rattle.forward_sim.specs.private.Machines.{Running, qubit_count, run_of, ended, ComesTo}
 use Rattle.forward_sim.specs.References.{IsEntry, AreEntries}
@@ -58,21 +55,6 @@ letter_ends old mid new letter q reset rec changes seen first seen_is second =
     let n = qubit_count old in
     ends old mid new (lone_letter n q letter) (correction n (measured n reset letter q)) (is_some rec) changes seen first seen_is
     (subst (λ k. ComesTo mid new (ended (correction k (measured k reset letter q)) (is_some rec) seen changes (run_of mid))) first.qubits second)
-
--- without faults a record is changed only where its collapse says so
-pub letter_next : (program : Listing) (products : List (List Term)) (letter : Letter) (q : ℕ) (rec : Option ℕ) (reset inverted : Bool) (flip : Option FaultName) (m : RunState)
-    → after_collapse (lone_letter program.qubits q letter) (correction program.qubits (measured program.qubits reset letter q)) (is_some rec) inverted m
-    ≡ next program [] (listed program.qubits products (step.Collapse letter q rec reset inverted flip)) m
-letter_next program products letter q None true inverted flip m = refl
-letter_next program products letter q None false inverted flip m = refl
-letter_next program products letter q (Some r) true inverted None m =
-    ap (λ b. after_collapse (lone_letter program.qubits q letter) (correction program.qubits (measured program.qubits true letter q)) true b m) (sym (exclusive_or-false inverted))
-letter_next program products letter q (Some r) true inverted (Some name) m =
-    ap (λ b. after_collapse (lone_letter program.qubits q letter) (correction program.qubits (measured program.qubits true letter q)) true b m) (sym (exclusive_or-false inverted))
-letter_next program products letter q (Some r) false inverted None m =
-    ap (λ b. after_collapse (lone_letter program.qubits q letter) None true b m) (sym (exclusive_or-false inverted))
-letter_next program products letter q (Some r) false inverted (Some name) m =
-    ap (λ b. after_collapse (lone_letter program.qubits q letter) None true b m) (sym (exclusive_or-false inverted))
 
 -- runs that can't be told apart keep the same
 pub same-entry : (n : ℕ) (s t : State) (w : List Letter) (entry : Option (List Term)) → HoldSame n s t → length w ≡ n → IsEntry n s w entry → IsEntry n t w entry

@@ -6,7 +6,7 @@ ghost use Rattle.step_model.specs.Targets.{difference, parity};
 
 use crate::records::Records;
 use programs::Program;
-use std::alloc::{AllocError, Allocator};
+use std::alloc::Allocator;
 use step_model::Fault;
 
 /// For each detector, and then for each observable, whether its parity in a run differs from that in a reference run:
@@ -22,21 +22,6 @@ pub fn detections<A: Allocator + Copy>(
     ensures ok { IfOk result (λ answers. answers.items
         ≡ difference program.now.listing records.now reference.now) }
     ensures err { IfErr result (λ fault. fault ≡ memory_fault) }
-{
-    Ok(differences(alloc, program, records, reference)?)
-}
-
-// The answers, in memory that is taken before the first.
-fn differences<A: Allocator + Copy>(
-    alloc: A,
-    program: &Program<'_, A>,
-    records: &Records<A>,
-    reference: &Records<A>,
-) -> Result<Vec<bool, A>, AllocError>
-    requires records_fit { length records.now ≡ program.now.listing.records }
-    requires reference_fit { length reference.now ≡ program.now.listing.records }
-    ensures { IfOk result (λ answers. answers.items
-        ≡ difference program.now.listing records.now reference.now) }
 {
     let targets = program.target_count();
     let mut answers = Vec::with_capacity(alloc, targets)?;

@@ -78,9 +78,9 @@ fn collapse<A: Allocator + Copy>(
     end_collapse(machine, letter, qubit, reset, seen, rec, changes);
 }
 
-/// Ends the collapse of a letter at a qubit with this outcome: resets the qubit where `reset`, and records the outcome,
-/// inverted where `changes`, where there is a number for it.
-pub(crate) fn end_collapse<A: Allocator + Copy>(
+// Ends the collapse of a letter at a qubit with this outcome: resets the qubit where `reset`, and records the outcome,
+// inverted where `changes`, where there is a number for it.
+fn end_collapse<A: Allocator + Copy>(
     machine: &mut Machine<'_, A>,
     letter: Letter,
     qubit: u32,
@@ -117,8 +117,8 @@ fn take_fault<A: Allocator + Copy>(
     }
 }
 
-/// Applies a letter at a qubit, where a record is 1.
-pub(crate) fn feed_back<A: Allocator + Copy>(
+// Applies a letter at a qubit, where a record is 1.
+fn feed_back<A: Allocator + Copy>(
     machine: &mut Machine<'_, A>,
     letter: Letter,
     qubit: u32,

@@ -6,7 +6,7 @@ ghost use Rattle.forward_sim.specs.private.Kept.{terms_listed, WalksTo};
 ghost use Rattle.forward_sim.specs.private.Machines.{CanTake};
 ghost use Rattle.forward_sim.specs.private.SameRuns.{IsSameRun};
 
-use crate::following::follow_step;
+use crate::following::read_replaced;
 use crate::last_word::LastWord;
 use crate::machine::Machine;
 use crate::records::Records;
@@ -80,7 +80,8 @@ impl<A: Allocator + Copy> WalkingRun<A> {
             (listed program.now.listing.qubits program.now.products step)
             (entry_of self.new.terms) }
     {
-        follow_step(&mut self.machine, program, &mut self.word, step);
+        read_replaced(&mut self.machine, program, &mut self.word, step);
+        take_step(&mut self.machine, program, &[], step);
     }
 
     /// Goes over a step, and says nothing of it.

@@ -5,10 +5,10 @@ use Rattle.std.proofs.lemmas.List.{map_more, take_all}
 use Rattle.pauli_word.specs.Parity.{exclusive_or}
 use Rattle.step_model.specs.Targets.{parity, targets_of}
 use Rattle.forward_sim.proofs.Differences.{differences-map, room_left}
-use Rattle.forward_sim.proofs.difference.differences.Goals as goal
+use Rattle.forward_sim.proofs.difference.detections.Goals as goal
 
-pub returns : goal.returns
-returns g c =
+pub returns-clause-ok : goal.returns-clause-ok
+returns-clause-ok g c =
     let program = c.args.program.now.listing in
     let all : length (targets_of program) ≤ c.loop-number.number = omega (arith, length-append program.detectors program.observables, c.target_count-targets.ensures) in
     c.loop-number.invariant.answered

@@ -1,7 +1,7 @@
 use Rattle.std.proofs.Common.{◌≡◌, map, take, vec_capacity}
 use Rattle.pauli_word.specs.Parity.{exclusive_or}
 use Rattle.step_model.specs.Targets.{parity, targets_of}
-use Rattle.forward_sim.proofs.difference.differences.Given as goal
+use Rattle.forward_sim.proofs.difference.detections.Given as goal
 
 -- the answers are those of the targets so far
 abbrev pub invariant-loop-number : goal.invariant-loop-number
