@@ -114,7 +114,8 @@ fn lines_of_run<A: Allocator + Copy>(
         return lines_without_events(alloc, program, &reference);
     }
     let records = run(alloc, program, faults, coins)?;
-    lines_beside(alloc, program, &records, &reference)
+    let detections = detections(alloc, program, &records, &reference)?;
+    Ok(run_lines(alloc, &records, detections.as_slice())?)
 }
 
 /// The line of a run's records, and the line of no detections: the run is the one that it is compared with.
@@ -136,25 +137,6 @@ fn has_true(values: &[bool]) -> bool
     ensures { result ≡ list_any (λ value. value) values.now }
 {
     values.iter().any(|value| *value)
-}
-
-/// The line of a run's records, and the line of its detections: for each target whether it differs from that of a
-/// reference run.
-fn lines_beside<A: Allocator + Copy>(
-    alloc: A,
-    program: &Program<'_, A>,
-    records: &Records<A>,
-    reference: &Records<A>,
-) -> Result<Vec<u8, A>, Fault>
-    requires records_fit { length records.now ≡ program.now.listing.records }
-    requires reference_fit { length reference.now ≡ program.now.listing.records }
-    ensures ok { IfOk result (λ lines. lines.items
-        ≡ line_of records.now
-        ++ line_of (difference program.now.listing records.now reference.now)) }
-    ensures err { IfErr result (λ e. e ≡ memory_fault) }
-{
-    let detections = detections(alloc, program, records, reference)?;
-    Ok(run_lines(alloc, records, detections.as_slice())?)
 }
 
 /// The records of the run in which no fault happens and every coin is 0.
