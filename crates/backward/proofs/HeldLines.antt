@@ -21,10 +21,10 @@ stretch_text program held from to holds counted =
     holds ∙ ap₂ (λ d lines. flat_map (line_text d) lines) counted (reverse-reverse (lines_between program from to))
 
 -- one line more, before those that were there
-pub one_line_more : (old new : Held) (n : ℕ) (text targets : List ℕ) (lines : List ErrorLine) → new.detectors ≡ old.detectors
-    → new.text ≡ line_text old.detectors (record { text = text_at old.texts n; targets = targets }) ++ old.text → text_at old.texts n ≡ text
-    → HoldsLines old lines → HoldsLines new (lines ++ record { text = text; targets = targets } ∷ [])
-one_line_more old new n text targets lines counted put named held =
+pub one_line_more : (old new : Held) (n : ℕ) (text targets : List ℕ) → new.detectors ≡ old.detectors → text_at old.texts n ≡ text
+    → new.text ≡ line_text old.detectors (record { text = text_at old.texts n; targets = targets }) ++ old.text
+    → Gives (HoldsLines old) (HoldsLines new) (record { text = text; targets = targets } ∷ [])
+one_line_more old new n text targets counted named put lines held =
     let line : ErrorLine = record { text = text; targets = targets } in
     put
     ∙ (ap₂ (λ t rest. line_text old.detectors (record { text = t; targets = targets }) ++ rest) named held

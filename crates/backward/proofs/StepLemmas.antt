@@ -69,7 +69,7 @@ over_quiet {holds = holds} {program = program} {from = from} lines r step at non
 
 -- ---- a step gone over is a run of one
 pub one_gone_over : {A T L U E : Type 0} {tracked : T → Tracked} {kept : L → KeptProgram} {holds : L → List ErrorLine → Type 0} {program : Listing} (most : ℕ) {from to : Point A T} {old new : Found A} {before after : L} {r : Result U E}
-    → most ≤ from.walk.place → IsGoneOver tracked kept holds program from to old new before after r → AreGoneOver tracked kept holds program most from to old new before after r
+    → most ≤ from.walk.place → IsGoneOver tracked kept holds program from to old new before after r → AreGoneOver tracked kept holds program most (from.walk.place + 1) from to old new before after r
 one_gone_over {tracked = tracked} {holds = holds} {program = program} most {from = from} {to = to} {new = new} {before = before} {after = after} {r = r} within over =
     let back = sym (ap (λ w. w.place) over.undone.walk) in
     record {

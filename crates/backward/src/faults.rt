@@ -5,7 +5,7 @@ ghost use Rattle.step_model.specs.Targets.{targets_of};
 ghost use Rattle.programs.specs.Kept.{kept_at};
 ghost use Rattle.programs.specs.Named.{IsNamed, IsNamedFlip};
 ghost use Rattle.backward.specs.private.Passes.{IsPassed, IsStepAt};
-ghost use Rattle.backward.specs.private.Steps.{AreGoneOver, IsGoneOver};
+ghost use Rattle.backward.specs.private.Steps.{AreGoneOver, IsGoneOver, StandsAt};
 ghost use Rattle.backward.specs.private.Stretches.{Gives, flip_line, line_for};
 ghost use Rattle.trackers.specs.Tracked.{anticommuting};
 
@@ -151,15 +151,13 @@ pub(crate) fn faults_back<'s, 'p, 'a, A: Allocator + Copy, T: Tracker, L: LineSt
     found: &mut Found<'s, A>,
     lines: &mut L,
 ) -> Result<(), AllocError>
-    requires program { at.old.walk.program ≡ program.now }
+    requires stands { StandsAt T.tracked L.program program.now (at.old.walk.place + 1) at.old
+        found.old lines.old }
     requires to { to ≤ at.old.walk.place }
     requires step { IsStepAt program.now.listing at.old.walk.place (Fault last.number) }
     requires named { IsNamed program.now last }
-    requires store { L.program lines.old ≡ program.now }
-    requires passed { IsPassed program.now.listing (at.old.walk.place + 1)
-        (T.tracked at.old.tracker) found.old }
-    ensures { AreGoneOver T.tracked L.program L.holds program.now.listing to at.old at.new found.old
-        found.new lines.old lines.new result }
+    ensures { AreGoneOver T.tracked L.program L.holds program.now.listing to
+        (at.old.walk.place + 1) at.old at.new found.old found.new lines.old lines.new result }
 {
     let mut left = Some(last);
     while let Some(name) = left {

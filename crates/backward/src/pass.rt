@@ -1,10 +1,9 @@
 //! Going back over the steps of a program, one at a time, or over a run of faults at once.
-ghost use Rattle.std.specs.Prelude.{◌≡◌, ◌<◌, ◌≤◌, ◌+◌, reverse, OnOk};
+ghost use Rattle.std.specs.Prelude.{◌<◌, ◌≤◌, ◌+◌};
 ghost use Rattle.programs.specs.Listed.{listed};
 ghost use Rattle.programs.specs.Named.{IsStepOf};
-ghost use Rattle.backward.specs.private.Passes.{IsFeedbackAt, IsPassed, IsStepAt, Stays};
-ghost use Rattle.backward.specs.private.Steps.{AreGoneOver, IsUndone};
-ghost use Rattle.backward.specs.private.Stretches.{Gives, lines_between};
+ghost use Rattle.backward.specs.private.Passes.{IsFeedbackAt, IsPassed, IsStepAt};
+ghost use Rattle.backward.specs.private.Steps.{AreGoneOver, IsUndone, StandsAt};
 
 use crate::collapse::collapse;
 use crate::faults::faults_back;
@@ -26,23 +25,11 @@ pub(crate) fn steps_back<'s, 'p, 'a, A: Allocator + Copy, T: Tracker, L: LineSto
     found: &mut Found<'s, A>,
     lines: &mut L,
 ) -> Result<(), AllocError>
-    requires program { at.old.walk.program ≡ program.now }
+    requires stands { StandsAt T.tracked L.program program.now at.old.walk.place at.old found.old
+        lines.old }
     requires to { to < at.old.walk.place }
-    requires store { L.program lines.old ≡ program.now }
-    requires passed { IsPassed program.now.listing at.old.walk.place (T.tracked at.old.tracker)
-        found.old }
-    ensures program { at.new.walk.program ≡ at.old.walk.program }
-    ensures to { to ≤ at.new.walk.place }
-    ensures back { at.new.walk.place ≤ at.old.walk.place }
-    ensures some { OnOk result (at.new.walk.place < at.old.walk.place) }
-    ensures passed { OnOk result
-        (IsPassed program.now.listing at.new.walk.place (T.tracked at.new.tracker) found.new) }
-    ensures stays { Stays found.old found.new }
-    ensures lines { OnOk result
-        (Gives (L.holds lines.old) (L.holds lines.new)
-        (reverse
-        (lines_between program.now.listing at.new.walk.place at.old.walk.place))) }
-    ensures store { L.program lines.new ≡ L.program lines.old }
+    ensures { AreGoneOver T.tracked L.program L.holds program.now.listing to at.old.walk.place
+        at.old at.new found.old found.new lines.old lines.new result }
 {
     program.well_formed();
     match at.walk.previous_step() {
@@ -61,16 +48,14 @@ pub(crate) fn go_over<'s, 'p, 'a, A: Allocator + Copy, T: Tracker, L: LineStore>
     found: &mut Found<'s, A>,
     lines: &mut L,
 ) -> Result<(), AllocError>
-    requires program { at.old.walk.program ≡ program.now }
+    requires stands { StandsAt T.tracked L.program program.now (at.old.walk.place + 1) at.old
+        found.old lines.old }
     requires to { to ≤ at.old.walk.place }
     requires step { IsStepAt program.now.listing at.old.walk.place
         (listed program.now.listing.qubits program.now.products step) }
     requires named { IsStepOf program.now step }
-    requires store { L.program lines.old ≡ program.now }
-    requires passed { IsPassed program.now.listing (at.old.walk.place + 1)
-        (T.tracked at.old.tracker) found.old }
-    ensures { AreGoneOver T.tracked L.program L.holds program.now.listing to at.old at.new found.old
-        found.new lines.old lines.new result }
+    ensures { AreGoneOver T.tracked L.program L.holds program.now.listing to
+        (at.old.walk.place + 1) at.old at.new found.old found.new lines.old lines.new result }
 {
     program.well_formed();
     match step {

@@ -1,5 +1,5 @@
 -- What going back over one step leaves. (This project's own.)
-use Rattle.std.specs.Prelude.{◌≡◌, ◌≤◌, ◌+◌, ℕ, List, Option, Result, OnOk, reverse}
+use Rattle.std.specs.Prelude.{◌≡◌, ◌<◌, ◌≤◌, ℕ, List, Option, Result, OnOk, reverse}
 use Rattle.step_model.specs.declared.step.Term.{Term}
 use Rattle.step_model.specs.ErrorModels.{ErrorLine}
 use Rattle.step_model.specs.Listing.{Listing}
@@ -11,6 +11,12 @@ use Rattle.trackers.specs.Tracked.{Tracked}
 use Rattle.backward.specs.private.Collapses.{members_at, undone_collapse}
 use Rattle.backward.specs.private.Passes.{IsPassed, Stays}
 use Rattle.backward.specs.private.Stretches.{Gives, flip_line, lines_at, lines_between}
+
+-- what is kept is that of going back to a place of a program, which a walk goes over, and whose lines a store takes
+pub record StandsAt {A T L : Type 0} (tracked : T → Tracked) (kept : L → KeptProgram) (program : KeptProgram) (place : ℕ) (at : Point A T) (found : Found A) (lines : L) : Type 0 where
+  pub program_is : at.walk.program ≡ program
+  pub store : kept lines ≡ program
+  pub passed : IsPassed program.listing place (tracked at.tracker) found
 
 -- the step right after the place of a walk was gone back over: the words are those before it, and so is what is kept
 pub record IsUndone {A T U E : Type 0} (tracked : T → Tracked) (program : Listing) (from to : Point A T) (old new : Found A) (result : Result U E) : Type 0 where
@@ -24,14 +30,14 @@ pub record IsGoneOver {A T L U E : Type 0} (tracked : T → Tracked) (kept : L �
   pub lines : OnOk result (Gives (holds before) (holds after) (lines_at program from.walk.place))
   pub store : kept after ≡ kept before
 
--- this step, and steps right before it, to a place at most, were gone back over
-pub record AreGoneOver {A T L U E : Type 0} (tracked : T → Tracked) (kept : L → KeptProgram) (holds : L → List ErrorLine → Type 0) (program : Listing) (most : ℕ) (from to : Point A T) (old new : Found A) (before after : L) (result : Result U E) : Type 0 where
+-- steps right before a place, to another at most, were gone back over
+pub record AreGoneOver {A T L U E : Type 0} (tracked : T → Tracked) (kept : L → KeptProgram) (holds : L → List ErrorLine → Type 0) (program : Listing) (most place : ℕ) (from to : Point A T) (old new : Found A) (before after : L) (result : Result U E) : Type 0 where
   pub program_is : to.walk.program ≡ from.walk.program
   pub above : most ≤ to.walk.place
-  pub below : to.walk.place ≤ from.walk.place
+  pub below : to.walk.place < place
   pub passed : OnOk result (IsPassed program to.walk.place (tracked to.tracker) new)
   pub stays : Stays old new
-  pub lines : OnOk result (Gives (holds before) (holds after) (reverse (lines_between program to.walk.place (from.walk.place + 1))))
+  pub lines : OnOk result (Gives (holds before) (holds after) (reverse (lines_between program to.walk.place place)))
   pub store : kept after ≡ kept before
 
 -- the words were taken back over a collapse with a record, where it has one, and the line of the fault that flips it was given

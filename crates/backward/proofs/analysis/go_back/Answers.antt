@@ -18,6 +18,11 @@ loop-at-init g c =
       lines = c.requires.none ∙ ap (reverse {A = ErrorLine}) (sym (lines_between-none program (length program.steps)) ∙ ap (λ k. lines_between program k (length program.steps)) (sym c.requires.place));
     }
 
+pub steps_back-requires-clause-stands : goal.steps_back-requires-clause-stands
+steps_back-requires-clause-stands g c =
+    let i = c.loop-at.invariant in
+    record { program_is = i.program_is; store = i.store; passed = i.passed }
+
 pub loop-at-preserved : goal.loop-at-preserved
 loop-at-preserved g c =
     let program = c.args.program.now.listing in
@@ -26,7 +31,7 @@ loop-at-preserved g c =
     let k = c.steps_back.new.at.walk.place in
     let to = length program.steps in
     record {
-      program_is = e.program ∙ l.invariant.program_is;
+      program_is = e.program_is ∙ l.invariant.program_is;
       store = e.store ∙ l.invariant.store;
       first = e.stays.settled ∙ l.invariant.first;
       passed = e.passed;
@@ -34,7 +39,7 @@ loop-at-preserved g c =
           e.lines l.lines.model.lines refl
           ∙ (ap (λ (lines : List ErrorLine). lines ++ reverse (lines_between program k l.at.walk.place)) l.invariant.lines
           ∙ (sym (reverse-append (lines_between program k l.at.walk.place) (lines_between program l.at.walk.place to))
-          ∙ ap (reverse {A = ErrorLine}) (lines_between-parts program k l.at.walk.place to e.back l.invariant.passed.within)));
+          ∙ ap (reverse {A = ErrorLine}) (lines_between-parts program k l.at.walk.place to (omega (arith, e.below)) l.invariant.passed.within)));
     }
 
 pub returns-clause-lines : goal.returns-clause-lines

@@ -24,14 +24,14 @@ pub returns-in-One : goal.returns-in-One
 returns-in-One g c =
     let at = c.args.at.now in
     let there = at_step c.args.program.now at.walk.place c.in-One.is c.requires.step in
-    let passed = on_ok_weaker c.undo1.result (λ h. passed-one c.args.program.now at.walk.place (g.T.Tracker.tracked at.tracker) c.args.found.now c.requires.passed c.in-One.gate c.in-One.q _ there h) c.undo1.ensures in
+    let passed = on_ok_weaker c.undo1.result (λ h. passed-one c.args.program.now at.walk.place (g.T.Tracker.tracked at.tracker) c.args.found.now c.requires.stands.passed c.in-One.gate c.in-One.q _ there h) c.undo1.ensures in
     one_gone_over c.args.to c.requires.to (over_quiet c.args.lines.now c.undo1.result _ there refl (record { walk = refl; passed = passed; stays = stays_as refl refl refl }))
 
 pub returns-in-Two : goal.returns-in-Two
 returns-in-Two g c =
     let at = c.args.at.now in
     let there = at_step c.args.program.now at.walk.place c.in-Two.is c.requires.step in
-    let passed = on_ok_weaker c.undo2.result (λ h. passed-two c.args.program.now at.walk.place (g.T.Tracker.tracked at.tracker) c.args.found.now c.requires.passed c.in-Two.gate c.in-Two.a c.in-Two.b _ there h) c.undo2.ensures in
+    let passed = on_ok_weaker c.undo2.result (λ h. passed-two c.args.program.now at.walk.place (g.T.Tracker.tracked at.tracker) c.args.found.now c.requires.stands.passed c.in-Two.gate c.in-Two.a c.in-Two.b _ there h) c.undo2.ensures in
     one_gone_over c.args.to c.requires.to (over_quiet c.args.lines.now c.undo2.result _ there refl (record { walk = refl; passed = passed; stays = stays_as refl refl refl }))
 
 pub returns-in-Feedback : goal.returns-in-Feedback

@@ -1,40 +1,48 @@
-use Rattle.std.proofs.Common.{◌≡◌, ◌+◌, subst, arith}
+use Rattle.std.proofs.Common.{◌≡◌, ◌+◌, subst, ◌∙◌, arith}
 use Rattle.std.specs.Prelude.{reverse}
 use Rattle.std.proofs.lemmas.Result.{on_ok_weaker}
+use Rattle.backward.specs.private.Passes.{IsPassed}
 use Rattle.backward.specs.private.Stretches.{Gives, lines_between}
 use Rattle.backward.proofs.PassSteps.{walk_at, walk_end}
 use Rattle.backward.proofs.pass.steps_back.Goals as goal
-use Rattle.backward.proofs.pass.steps_back.Goals.{In-None}
-use Rattle.backward.proofs.pass.steps_back.Given.{Over}
 
 pub go_over-requires-clause-step : goal.go_over-requires-clause-step
 go_over-requires-clause-step g c =
     let walk = c.args.at.now.walk in
-    walk_at walk.program c.args.program.now walk.place c.previous_step.new.self.place c.previous_step.result c.in-Some.step c.requires.program c.in-Some.is c.previous_step.ensures.place c.previous_step.ensures.step
+    walk_at walk.program c.args.program.now walk.place c.previous_step.new.self.place c.previous_step.result c.in-Some.step c.requires.stands.program_is c.in-Some.is c.previous_step.ensures.place c.previous_step.ensures.step
 
-pub returns-in-Some-clause-lines : goal.returns-in-Some-clause-lines
-returns-in-Some-clause-lines g c =
+pub go_over-requires-clause-stands : goal.go_over-requires-clause-stands
+go_over-requires-clause-stands g c =
+    let at = c.args.at.now in
+    let stands = c.requires.stands in
+    let back : at.walk.place ≡ c.previous_step.new.self.place + 1 = omega (arith, c.previous_step.ensures.place, c.requires.to) in
+    record {
+      program_is = c.previous_step.ensures.program ∙ stands.program_is;
+      store = stands.store;
+      passed = subst (λ k. IsPassed c.args.program.now.listing k (g.T.Tracker.tracked at.tracker) c.args.found.now) back stands.passed;
+    }
+
+pub returns-in-Some : goal.returns-in-Some
+returns-in-Some g c =
     let holds = g.L.LineStore.holds in
     let now = c.go_over.new in
+    let e = c.go_over.ensures in
     let back : c.previous_step.new.self.place + 1 ≡ c.args.at.now.walk.place = omega (arith, c.previous_step.ensures.place, c.requires.to) in
-    on_ok_weaker c.go_over.result
-    (subst (λ k. Gives (holds c.args.lines.now) (holds now.lines) (reverse (lines_between c.args.program.now.listing now.at.walk.place k))) back)
-    c.go_over.ensures.lines
+    record {
+      program_is = e.program_is ∙ c.previous_step.ensures.program;
+      above = e.above;
+      below = omega (arith, back, e.below);
+      passed = e.passed;
+      stays = e.stays;
+      lines =
+          on_ok_weaker c.go_over.result
+          (subst (λ k. Gives (holds c.args.lines.now) (holds now.lines) (reverse (lines_between c.args.program.now.listing now.at.walk.place k))) back)
+          e.lines;
+      store = e.store;
+    }
 
 -- there is a step
-none : (g : Over) (c : In-None g) → c.args.at.now.walk.place ≡ 0
-none g c =
+pub returns-in-None : goal.returns-in-None
+returns-in-None g c =
     let walk = c.args.at.now.walk in
-    walk_end walk.program c.args.program.now walk.place c.previous_step.result c.requires.program c.in-None.is c.requires.passed.within c.previous_step.ensures.step
-
-pub returns-in-None-clause-to : goal.returns-in-None-clause-to
-returns-in-None-clause-to g c = absurd (omega (arith, none g (goal.at.returns-in-None-clause-to g c).In-None, c.requires.to))
-
-pub returns-in-None-clause-some : goal.returns-in-None-clause-some
-returns-in-None-clause-some g c = absurd (omega (arith, none g (goal.at.returns-in-None-clause-some g c).In-None, c.requires.to))
-
-pub returns-in-None-clause-passed : goal.returns-in-None-clause-passed
-returns-in-None-clause-passed g c = absurd (omega (arith, none g (goal.at.returns-in-None-clause-passed g c).In-None, c.requires.to))
-
-pub returns-in-None-clause-lines : goal.returns-in-None-clause-lines
-returns-in-None-clause-lines g c = absurd (omega (arith, none g (goal.at.returns-in-None-clause-lines g c).In-None, c.requires.to))
+    absurd (omega (arith, walk_end walk.program c.args.program.now walk.place c.previous_step.result c.requires.stands.program_is c.in-None.is c.requires.stands.passed.within c.previous_step.ensures.step, c.requires.to))

@@ -33,6 +33,11 @@ goes g c = elim c.if-place-ask.branch [
       )
 ]
 
+pub steps_back-requires-clause-stands : goal.steps_back-requires-clause-stands
+steps_back-requires-clause-stands g c =
+    let i = c.loop-ask.invariant in
+    record { program_is = i.program_is ∙ c.requires.program; store = i.store ∙ c.requires.store; passed = i.passed }
+
 pub loop-ask-preserved : goal.loop-ask-preserved
 loop-ask-preserved g c =
     let l = c.loop-ask in
@@ -40,12 +45,12 @@ loop-ask-preserved g c =
     let on = goes g (goal.at.loop-ask-preserved g c).In_ok-steps_back in
     let now = c.steps_back.new in
     record {
-      program_is = e.program ∙ l.invariant.program_is;
+      program_is = e.program_is ∙ l.invariant.program_is;
       store = e.store ∙ l.invariant.store;
-      above = omega (arith, e.to, on.1);
+      above = omega (arith, e.above, on.1);
       asks = on.1;
-      below = omega (arith, e.back, l.invariant.below);
+      below = omega (arith, e.below, l.invariant.below);
       passed = e.passed;
       stays = stays_on c.args.found.now l.found now.found l.invariant.stays e.stays;
-      lines = gives_on c.args.program.now.listing now.at.walk.place l.at.walk.place c.args.at.now.walk.place (HoldsLines c.args.lines.now.text) (HoldsLines l.lines.text) (HoldsLines now.lines.text) e.back l.invariant.below l.invariant.lines e.lines;
+      lines = gives_on c.args.program.now.listing now.at.walk.place l.at.walk.place c.args.at.now.walk.place (HoldsLines c.args.lines.now.text) (HoldsLines l.lines.text) (HoldsLines now.lines.text) (omega (arith, e.below)) l.invariant.below l.invariant.lines e.lines;
     }

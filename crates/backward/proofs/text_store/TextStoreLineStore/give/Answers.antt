@@ -7,13 +7,7 @@ use Rattle.backward.proofs.text_store.TextStoreLineStore.give.Goals as goal
 pub invariant_of-self : goal.invariant_of-self
 invariant_of-self g c =
     let store = c.args.self.now in
-    let e = c.put_line.ensures in
-    record { fits = still_fits store.program.now store.chances store.numbers.items store.text c.put_line.new.self store.fits e.detectors e.targets e.texts }
+    record { fits = still_fits store.program.now store.chances store.numbers.items store.text c.put_line.new.self store.fits c.put_line.ensures.detectors c.put_line.ensures.targets c.put_line.ensures.texts }
 
 pub returns-clause-holds : goal.returns-clause-holds
-returns-clause-holds g c =
-    let store = c.args.self.now in
-    let e = c.put_line.ensures in
-    on_ok_weaker c.put_line.result
-    (λ put lines held. one_line_more store.text c.put_line.new.self c.text_number-number.result (kept_at store.program.now c.args.entry).text c.args.targets.now lines e.detectors put c.text_number-number.ensures.named held)
-    e.ok
+returns-clause-holds g c = on_ok_weaker c.put_line.result (one_line_more c.args.self.now.text c.put_line.new.self c.text_number-number.result (kept_at c.args.self.now.program.now c.args.entry).text c.args.targets.now c.put_line.ensures.detectors c.text_number-number.ensures.named) c.put_line.ensures.ok

@@ -8,13 +8,7 @@ use Rattle.backward.proofs.text_store.TextStoreLineStore.give_reversed.Goals as 
 pub invariant_of-self : goal.invariant_of-self
 invariant_of-self g c =
     let store = c.args.self.now in
-    let e = c.put_line_reversed.ensures in
-    record { fits = still_fits store.program.now store.chances store.numbers.items store.text c.put_line_reversed.new.self store.fits e.detectors e.targets e.texts }
+    record { fits = still_fits store.program.now store.chances store.numbers.items store.text c.put_line_reversed.new.self store.fits c.put_line_reversed.ensures.detectors c.put_line_reversed.ensures.targets c.put_line_reversed.ensures.texts }
 
 pub returns-clause-holds : goal.returns-clause-holds
-returns-clause-holds g c =
-    let store = c.args.self.now in
-    let e = c.put_line_reversed.ensures in
-    on_ok_weaker c.put_line_reversed.result
-    (λ put lines held. one_line_more store.text c.put_line_reversed.new.self c.text_number-number.result (kept_at store.program.now c.args.entry).text (reverse c.args.targets.now) lines e.detectors put c.text_number-number.ensures.named held)
-    e.ok
+returns-clause-holds g c = on_ok_weaker c.put_line_reversed.result (one_line_more c.args.self.now.text c.put_line_reversed.new.self c.text_number-number.result (kept_at c.args.self.now.program.now c.args.entry).text (reverse c.args.targets.now) c.put_line_reversed.ensures.detectors c.text_number-number.ensures.named) c.put_line_reversed.ensures.ok
