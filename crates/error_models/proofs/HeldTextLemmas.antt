@@ -4,7 +4,7 @@ use Rattle.std.proofs.Common.{◌≡◌, ℕ, ◌+◌, ◌-◌, ◌≤◌, ◌<�
 use Rattle.std.specs.List.{flat_map}
 use Rattle.std.proofs.lemmas.Grind.{flat_map-append}
 use Rattle.std.proofs.lemmas.List.{take-append-drop, drop-drop, drop_more, reverse-append}
-use Rattle.error_models.specs.HeldText.{Filled, text_in, texts_of, EndsIn}
+use Rattle.error_models.specs.HeldText.{Filled, texts_of, EndsIn}
 
 -- a part of a list and what stands behind it
 pub part_and_rest : {X : Type 0} (xs : List X) (from left : ℕ) → from ≤ left → take (left - from) (drop from xs) ++ drop left xs ≡ drop from xs
@@ -20,15 +20,11 @@ pub texts_and_rest : {X : Type 0} (f : X → List ℕ) (xs : List X) (from left 
 texts_and_rest f xs from left le =
     sym (flat_map-append f (take (left - from) (drop from xs)) (drop left xs)) ∙ ap (flat_map f) (part_and_rest xs from left le)
 
--- a part that is put into a block, before those that were filled before it
-pub put_into : (part : List ℕ) (new block : Filled) (full : List Filled) → new.text ≡ part ++ block.text → text_in new full ≡ part ++ text_in block full
-put_into part new block full put =
-    ap (λ l. l ++ texts_of full) put ∙ append_assoc part block.text (texts_of full)
-
--- a part that is put before what was there
-pub put_before : (part rest was all old new : List ℕ) → new ≡ part ++ old → old ≡ rest ++ was → part ++ rest ≡ all → new ≡ all ++ was
-put_before part rest was all old new put held whole =
-    put
+-- a part that is put into a block, before what was there
+pub put_before : (part rest was all block full new : List ℕ) → new ≡ part ++ block → block ++ full ≡ rest ++ was → part ++ rest ≡ all → new ++ full ≡ all ++ was
+put_before part rest was all block full new put held whole =
+    ap (λ l. l ++ full) put
+    ∙ append_assoc part block full
     ∙ ap (λ l. part ++ l) held
     ∙ sym (append_assoc part rest was)
     ∙ ap (λ l. l ++ was) whole

@@ -9,6 +9,7 @@ use crate::held_text::HeldText;
 use crate::line_text::LineText;
 use crate::names::Names;
 use crate::short_lines::{SHORT_LINE, SHORT_TARGETS, SHORT_TEXT};
+use crate::text_block::TextBlock;
 use crate::text_blocks::TextBlocks;
 use crate::texts::number_of;
 use std::alloc::{AllocError, Allocator};
@@ -20,10 +21,12 @@ use std::marker::Model;
 pub struct LinesText<'a, A: Allocator + Copy> {
     names: Names<A>,
     texts: Vec<LineText<'a>, A>,
-    blocks: TextBlocks<A>,
+    block: TextBlock<A>,
+    full: TextBlocks<A>,
 }
 
 impl<'a, A: Allocator + Copy> Model for LinesText<'a, A> {
+    ghost use Rattle.std.specs.Prelude.{◌++◌};
     ghost use Rattle.error_models.specs.HeldText.{Held};
 
     ghost Value = { Held };
@@ -32,7 +35,7 @@ impl<'a, A: Allocator + Copy> Model for LinesText<'a, A> {
       detectors = t.names.detectors;
       targets = t.names.targets;
       texts = t.texts.items;
-      text = t.blocks.text;
+      text = t.block.text ++ t.full;
     } };
 }
 
@@ -42,11 +45,13 @@ impl<A: Allocator + Copy> Drop for LinesText<'_, A> {
         let LinesText {
             names,
             texts,
-            blocks,
+            block,
+            full,
         } = self;
         drop(names);
         drop(texts);
-        drop(blocks);
+        drop(block);
+        drop(full);
     }
 }
 
@@ -62,7 +67,8 @@ impl<'a, A: Allocator + Copy> LinesText<'a, A> {
         Ok(LinesText {
             names: Names::new(alloc, detectors, targets)?,
             texts: Vec::new(alloc),
-            blocks: TextBlocks::new(alloc),
+            block: TextBlock::none(alloc),
+            full: TextBlocks::new(alloc),
         })
     }
 
@@ -140,8 +146,8 @@ impl<'a, A: Allocator + Copy> LinesText<'a, A> {
             let text = text.text();
             return self.put_long_line(text, targets, reversed);
         }
-        self.blocks.make_room()?;
-        self.blocks.put_line(&self.names, text, targets, reversed);
+        self.full.make_room(&mut self.block)?;
+        self.block.put_line(&self.names, text, targets, reversed);
         Ok(())
     }
 
@@ -181,8 +187,8 @@ impl<'a, A: Allocator + Copy> LinesText<'a, A> {
         let mut left = bytes.len();
         while left > 0 {
             let from = left.saturating_sub(SHORT_LINE);
-            self.blocks.make_room()?;
-            self.blocks.put(&bytes[from..left]);
+            self.full.make_room(&mut self.block)?;
+            self.block.put(&bytes[from..left]);
             left = from;
         }
         Ok(())
@@ -201,8 +207,8 @@ impl<'a, A: Allocator + Copy> LinesText<'a, A> {
         let mut left = targets.len();
         while left > 0 {
             let from = left.saturating_sub(SHORT_TARGETS);
-            self.blocks.make_room()?;
-            self.blocks.put_targets(&self.names, &targets[from..left]);
+            self.full.make_room(&mut self.block)?;
+            self.block.put_targets(&self.names, &targets[from..left]);
             left = from;
         }
         Ok(())
@@ -248,7 +254,7 @@ impl<'a, A: Allocator + Copy> LinesText<'a, A> {
     pub fn len(&self) -> usize
         ensures { result ≡ min (length self.now.text) usize.MAX }
     {
-        self.blocks.len()
+        self.full.len(&self.block)
     }
 
     /// Takes the text out, so that it is written when those before it are. Takes no memory.
@@ -256,7 +262,7 @@ impl<'a, A: Allocator + Copy> LinesText<'a, A> {
         ensures text { result ≡ self.old.text }
         ensures left { self.new ≡ record self.old { text = [] } }
     {
-        self.blocks.take()
+        self.full.take(&mut self.block)
     }
 
     /// Keeps the blocks of a text that was written, so that they are filled again before new ones are taken. Takes no
@@ -264,6 +270,6 @@ impl<'a, A: Allocator + Copy> LinesText<'a, A> {
     pub fn reuse(&mut self, held: HeldText<A>)
         ensures { self.new ≡ self.old }
     {
-        self.blocks.reuse(held);
+        self.full.reuse(held);
     }
 }

@@ -1,132 +1,89 @@
-//! Text that grows at its beginning, by blocks that are filled from their ends.
-ghost use Rattle.std.specs.Prelude.{◌≡◌, ◌<◌, ◌≤◌, ◌*◌, ◌++◌, [], All, length, min, IfOk, OnOk, vec_capacity, vec_len};
+//! Text that grows at its beginning, by blocks that are filled from their ends: those that are full.
+ghost use Rattle.std.specs.Prelude.{◌≡◌, ◌<◌, ◌≤◌, ◌++◌, [], length, min, IfOk, OnOk, vec_capacity, vec_len};
 ghost use Rattle.error_models.specs.HeldText.{no_text, texts_of};
-ghost use Rattle.error_models.specs.ModelText.{line_text, targets_text};
-ghost use Rattle.error_models.specs.private.TargetNames.{reversed_where};
 
 use crate::held_text::HeldText;
-use crate::line_text::LineText;
-use crate::names::{NAME, Names};
-use crate::short_lines::{SHORT_LINE, SHORT_TARGETS, SHORT_TEXT};
+use crate::short_lines::SHORT_LINE;
 use crate::text_block::TextBlock;
 use std::alloc::{AllocError, Allocator};
 use std::marker::Model;
 use std::mem;
 
-/// Text in blocks of 64 KiB, with the room before it in the block that is being filled.
+/// The blocks of 64 KiB that are full, of a text that begins in the block that is being filled. In contracts, their text.
 #[derive(Drop)]
 pub(crate) struct TextBlocks<A: Allocator + Copy> {
     alloc: A,
-    // The blocks that are full, in the order in which they were filled: the last part of the text first.
+    // In the order in which they were filled: the last part of the text first.
     full: Vec<TextBlock<A>, A>,
     full_len: usize,
-    block: TextBlock<A>,
     // Blocks of texts that were written, to be filled again.
     spare: Vec<TextBlock<A>, A>,
 }
 
 impl<A: Allocator + Copy> Model for TextBlocks<A> {
-    ghost use Rattle.std.specs.Prelude.{◌≡◌, ◌-◌, ◌^◌, length, min};
-    ghost use Rattle.error_models.specs.HeldText.{Filled, text_in, texts_of};
+    ghost use Rattle.std.specs.Prelude.{◌≡◌, ◌-◌, ◌^◌, ℕ, List, length, min};
+    ghost use Rattle.error_models.specs.HeldText.{texts_of};
 
-    ghost Value = { Filled };
+    ghost Value = { List ℕ };
 
-    ghost view = { λ t. record { text = text_in t.block t.full.items; room = t.block.room } };
+    ghost view = { λ t. texts_of t.full.items };
 
     ghost invariant = { λ t. t.full_len ≡ min (length (texts_of t.full.items)) (2 ^ 64 - 1) };
 }
 
 impl<A: Allocator + Copy> TextBlocks<A> {
-    /// No text. Takes no memory.
+    /// No blocks. Takes no memory.
     pub(crate) fn new(alloc: A) -> Self
-        ensures { result ≡ no_text 0 }
+        ensures { result ≡ [] }
     {
         TextBlocks {
             alloc,
             full: Vec::new(alloc),
             full_len: 0,
-            block: TextBlock::none(alloc),
             spare: Vec::new(alloc),
         }
     }
 
     /// How many bytes the text has, at most the greatest number.
-    pub(crate) fn len(&self) -> usize
-        ensures { result ≡ min (length self.now.text) usize.MAX }
+    pub(crate) fn len(&self, block: &TextBlock<A>) -> usize
+        ensures { result ≡ min (length (block.now.text ++ self.now)) usize.MAX }
     {
-        self.full_len.saturating_add(self.block.len())
+        self.full_len.saturating_add(block.len())
     }
 
     /// Makes room for a short line, where there isn't any.
     #[inline(always)]
-    pub(crate) fn make_room(&mut self) -> Result<(), AllocError>
-        ensures room { OnOk result (SHORT_LINE ≤ self.new.room) }
-        ensures same { self.new.text ≡ self.old.text }
+    pub(crate) fn make_room(&mut self, block: &mut TextBlock<A>) -> Result<(), AllocError>
+        ensures room { OnOk result (SHORT_LINE ≤ block.new.room) }
+        ensures same { block.new.text ++ self.new ≡ block.old.text ++ self.old }
     {
-        if self.block.room() >= SHORT_LINE {
+        if block.room() >= SHORT_LINE {
             return Ok(());
         }
-        self.next_block()
+        self.next_block(block)
     }
 
     #[inline(never)]
-    fn next_block(&mut self) -> Result<(), AllocError>
-        ensures room { OnOk result (SHORT_LINE ≤ self.new.room) }
-        ensures same { self.new.text ≡ self.old.text }
+    fn next_block(&mut self, block: &mut TextBlock<A>) -> Result<(), AllocError>
+        ensures room { OnOk result (SHORT_LINE ≤ block.new.room) }
+        ensures same { block.new.text ++ self.new ≡ block.old.text ++ self.old }
     {
         // Room for the next block too, so that the list can hold all blocks of the text.
         self.full.reserve(2)?;
         let next = empty_block(self.alloc, &mut self.spare)?;
-        let before = mem::replace(&mut self.block, next);
+        let before = mem::replace(block, next);
         keep_full(&mut self.full, &mut self.full_len, before);
         Ok(())
     }
 
-    /// Puts bytes before the text.
-    pub(crate) fn put(&mut self, bytes: &[u8])
-        requires { length bytes.now ≤ self.old.room }
-        ensures { self.new.text ≡ bytes.now ++ self.old.text }
-    {
-        self.block.put(bytes);
-    }
-
-    /// Puts the text of targets before the text.
-    pub(crate) fn put_targets(&mut self, names: &Names<A>, targets: &[u32])
-        requires room { length targets.now * NAME ≤ self.old.room }
-        requires targets { All (λ target. target < names.now.targets) targets.now }
-        ensures { self.new.text ≡ targets_text names.now.detectors targets.now ++ self.old.text }
-    {
-        self.block.put_targets(names, targets);
-    }
-
-    /// Puts a short line before the text, with the targets from the last to the first where `reversed`.
-    #[inline(always)]
-    pub(crate) fn put_line<'a>(
-        &mut self,
-        names: &Names<A>,
-        text: &LineText<'a>,
-        targets: &[u32],
-        reversed: bool,
-    )
-        requires room { SHORT_LINE ≤ self.old.room }
-        requires short { length text.now ≤ SHORT_TEXT }
-        requires few { length targets.now ≤ SHORT_TARGETS }
-        requires targets { All (λ target. target < names.now.targets) targets.now }
-        ensures { self.new.text
-            ≡ line_text names.now.detectors
-            (record { text = text.now; targets = reversed_where reversed targets.now })
-            ++ self.old.text }
-    {
-        self.block.put_line(names, text, targets, reversed);
-    }
-
     /// Takes the text out. Takes no memory.
-    pub(crate) fn take(&mut self) -> HeldText<A>
-        ensures text { result ≡ self.old.text }
-        ensures left { self.new ≡ no_text 0 }
+    pub(crate) fn take(&mut self, block: &mut TextBlock<A>) -> HeldText<A>
+        ensures text { result ≡ block.old.text ++ self.old }
+        ensures block { block.new ≡ no_text 0 }
+        ensures left { self.new ≡ [] }
     {
         let full = mem::replace(&mut self.full, Vec::new(self.alloc));
-        let block = mem::replace(&mut self.block, TextBlock::none(self.alloc));
+        let block = mem::replace(block, TextBlock::none(self.alloc));
         self.full_len = 0;
         HeldText::new(full, block)
     }

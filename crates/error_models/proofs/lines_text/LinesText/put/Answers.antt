@@ -12,6 +12,6 @@ loop-left-preserved g c =
       within = omega (arith, le, c.loop-left.invariant.within);
       names = c.loop-left.invariant.names;
       texts = c.loop-left.invariant.texts;
-      text = put_before (take (left - from) (drop from bytes)) (drop left bytes) c.args.self.now.text (drop from bytes) c.make_room.new.self.text c.put.new.self.text
+      text = put_before (take (left - from) (drop from bytes)) (drop left bytes) c.args.self.now.text (drop from bytes) c.make_room.new.block.text c.make_room.new.self c.put.new.self.text
           c.put.ensures (c.make_room.ensures.same ∙ c.loop-left.invariant.text) (part_and_rest bytes from left le);
     }

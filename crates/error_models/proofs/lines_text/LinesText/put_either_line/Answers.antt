@@ -31,8 +31,8 @@ returns-clause-ok g c =
     ∙ (sym (text_at-get_or texts number c.index-text.result.now within)
     ∙ ap (λ h. text_at h.texts number) c.self.view_is) in
     let line = line_text held.detectors (line_from (text_at held.texts number) (reversed_where c.args.reversed c.args.targets.now)) in
-    put_before line [] held.text line c.make_room.new.self.text c.put_line.new.self.text
-    (c.put_line.ensures ∙ ap₂ (λ h text. line_text h.detectors (line_from text (reversed_where c.args.reversed c.args.targets.now)) ++ c.make_room.new.self.text) c.self.view_is kept)
+    put_before line [] held.text line c.make_room.new.block.text c.make_room.new.self c.put_line.new.self.text
+    (c.put_line.ensures ∙ ap₂ (λ h text. line_text h.detectors (line_from text (reversed_where c.args.reversed c.args.targets.now)) ++ c.make_room.new.block.text) c.self.view_is kept)
     (c.make_room.ensures.same ∙ ap (λ h. h.text) c.self.view_is)
     (append-nil line)
 
@@ -40,7 +40,7 @@ pub returns-clause-kept : goal.returns-clause-kept
 returns-clause-kept g c =
     let line = line_text c.self.inside.names.detectors (line_from c.index-text.result.now (reversed_where c.args.reversed c.args.targets.now)) in (
       line,
-      put_before line [] c.args.self.now.text line c.make_room.new.self.text c.put_line.new.self.text
+      put_before line [] c.args.self.now.text line c.make_room.new.block.text c.make_room.new.self c.put_line.new.self.text
           c.put_line.ensures
           (c.make_room.ensures.same ∙ ap (λ h. h.text) c.self.view_is)
           (append-nil line),

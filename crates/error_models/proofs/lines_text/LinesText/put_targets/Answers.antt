@@ -15,7 +15,7 @@ loop-left-preserved g c =
       within = omega (arith, le, c.loop-left.invariant.within);
       names = c.loop-left.invariant.names;
       texts = c.loop-left.invariant.texts;
-      text = put_before (targets_text detectors part) (targets_text detectors (drop left targets)) c.args.self.now.text (targets_text detectors (drop from targets)) c.make_room.new.self.text c.put_targets.new.self.text
-          (c.put_targets.ensures ∙ ap (λ n. targets_text n.detectors part ++ c.make_room.new.self.text) c.loop-left.invariant.names)
+      text = put_before (targets_text detectors part) (targets_text detectors (drop left targets)) c.args.self.now.text (targets_text detectors (drop from targets)) c.make_room.new.block.text c.make_room.new.self c.put_targets.new.self.text
+          (c.put_targets.ensures ∙ ap (λ n. targets_text n.detectors part ++ c.make_room.new.block.text) c.loop-left.invariant.names)
           (c.make_room.ensures.same ∙ c.loop-left.invariant.text) (texts_and_rest (target_text detectors) targets from left le);
     }

@@ -9,7 +9,7 @@ invariant-loop-left g l =
       within : l.left ≤ length l.targets;
       names : l.self-inside.names ≡ record { detectors = l.fn.self.detectors; targets = l.fn.self.targets };
       texts : l.self-inside.texts.items ≡ l.fn.self.texts;
-      text : l.self-inside.blocks.text ≡ targets_text l.fn.self.detectors (drop l.left l.targets) ++ l.fn.self.text;
+      text : l.self-inside.block.text ++ l.self-inside.full ≡ targets_text l.fn.self.detectors (drop l.left l.targets) ++ l.fn.self.text;
     }
 
 abbrev pub decreases-loop-left : goal.decreases-loop-left

@@ -11,4 +11,4 @@ returns-clause-same g c =
     ap₂ (λ (b : Filled) (t : List ℕ). b.text ++ t) c.replace-before.ensures.after c.keep_full.ensures.texts
     ∙ ap₂ (λ (t : List ℕ) (l : List ℕ). t ++ l) c.in_ok-next.ensures.empty
     (ap₂ (λ (b : Filled) (bs : List Filled). b.text ++ texts_of bs) c.replace-before.ensures.value c.reserve.ensures.items)
-    ∙ ap (λ b. b.text) c.self.view_is
+    ∙ ap (λ l. c.args.block.now.text ++ l) c.self.view_is
