@@ -1,10 +1,7 @@
 -- The end of the line of a detector and of the detector before it.
-use Rattle.std.proofs.Common.{◌≡◌, ℕ, suc, inl, inr, ◌+◌, ◌-◌, ◌<◌, ◌/◌, ◌%◌, ◌^◌, List, [], ◌∷◌, ◌++◌, length, get_or, drop, set, sym, ap, ap₂, ◌∙◌, arith, append_assoc, length-append, length-drop}
-use Rattle.std.specs.Prelude.{decimal}
+use Rattle.std.proofs.Common.{◌≡◌, ℕ, ◌+◌, ◌-◌, ◌<◌, ◌^◌, List, [], ◌∷◌, ◌++◌, length, get_or, drop, set, sym, ap, ap₂, ◌∙◌, arith, append_assoc, length-append, length-drop}
 use Rattle.std.proofs.Math.Seq.{get_or-append_seam, set-append_seam}
-use Rattle.std.proofs.lemmas.Bool.Decides.{leb_tells}
-use Rattle.std.proofs.lemmas.Fmt.{decimal_digit, decimal_step}
-use Rattle.std.proofs.lemmas.List.{drop-set-add, get_or-drop, same_from_push}
+use Rattle.std.proofs.lemmas.List.{drop-set-add, get_or-drop}
 use Rattle.error_models.specs.private.DetectorEnds.{HasEnd}
 use Rattle.streams.proofs.LastDigits.{Digits, digits_of, last_falls}
 

@@ -1,4 +1,4 @@
-use Rattle.std.proofs.Common.{◌≡◌, ◌+◌, ◌-◌, ◌<◌, get_or, sym, ◌∙◌, arith}
+use Rattle.std.proofs.Common.{◌≡◌, ◌+◌, ◌-◌, ◌<◌, get_or, ◌∙◌, arith}
 use Rattle.error_models.proofs.NameLemmas.{next_name}
 use Rattle.error_models.proofs.names.Name.next.Goals as goal
 

@@ -1,4 +1,4 @@
-use Rattle.std.proofs.Common.{◌≡◌, ◌+◌, ◌-◌, ◌<◌, length, get_or, ap, refl, sym, subst, ◌∙◌, arith}
+use Rattle.std.proofs.Common.{◌≡◌, ◌+◌, ◌-◌, ◌<◌, length, ap, refl, sym, subst, ◌∙◌, arith}
 use Rattle.error_models.specs.ModelText.{target_text}
 use Rattle.error_models.specs.private.TargetNames.{AreNames}
 use Rattle.error_models.proofs.ErrorLineLemmas.{length-one_more}
