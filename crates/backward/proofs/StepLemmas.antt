@@ -1,6 +1,6 @@
 -- One step gone back over: where a call failed, and where the step has no fault.
-use Rattle.std.proofs.Common.{◌≡◌, ℕ, ◌+◌, ◌≤◌, Bool, List, [], Option, Result, Ok, Err, OnOk, refl, ap, subst, sym, ◌∙◌, arith}
-use Rattle.std.specs.Prelude.{reverse}
+use Rattle.std.proofs.Common.{◌≡◌, ℕ, ◌+◌, ◌-◌, ◌<◌, ◌≤◌, ◌==◌, Bool, List, [], Option, Some, None, Result, Ok, Err, OnOk, refl, ap, subst, sym, ◌∙◌, arith}
+use Rattle.std.specs.Prelude.{if◌then◌else◌, option_map, reverse, slice_get}
 use Rattle.std.proofs.lemmas.Result.{on_ok_weaker}
 use Rattle.step_model.specs.declared.step.Term.{Term}
 use Rattle.step_model.specs.ErrorModels.{ErrorLine}
@@ -13,10 +13,10 @@ use Rattle.programs.specs.declared.step.Step.{Step}
 use Rattle.backward.specs.declared.found.Found.{Found}
 use Rattle.backward.specs.declared.point.Point.{Point}
 use Rattle.backward.specs.private.Passes.{FitsCollapse, IsPassed, IsStepAt, Stays}
-use Rattle.backward.specs.private.Steps.{AreGoneOver, IsGoneOver, IsUndone}
+use Rattle.backward.specs.private.Steps.{AreGoneOver, IsGoneOver, IsUndone, StandsAt, StandsBefore}
 use Rattle.backward.specs.private.Stretches.{Gives, lines_between}
 use Rattle.backward.proofs.HeldLines.{gives_step}
-use Rattle.backward.proofs.PassSteps.{gives_none, no_line}
+use Rattle.backward.proofs.PassSteps.{gives_none, no_line, walk_at}
 use Rattle.trackers.specs.Tracked.{Tracked}
 
 -- ---- what stays
@@ -65,6 +65,23 @@ over_quiet {holds = holds} {program = program} {from = from} lines r step at non
       undone = undone;
       lines = on_ok_any r (gives_none (holds lines) _ (no_line program from.walk.place step at none));
       store = refl;
+    }
+
+-- ---- a walk that has gone back over a step stands right before it
+pub stands_before : {A T L : Type 0} {tracked : T → Tracked} {kept : L → KeptProgram} (program : KeptProgram) {most : ℕ} (at : Point A T) {to : Point A T} {found : Found A} {lines : L} (result : Option Step) {step : Step}
+    → StandsAt tracked kept program at.walk.place at found lines → most < at.walk.place → to.walk.program ≡ at.walk.program → to.walk.place ≡ at.walk.place - 1 → to.tracker ≡ at.tracker → result ≡ Some step
+    → option_map (listed at.walk.program.listing.qubits at.walk.program.products) result ≡ (if at.walk.place == 0 then None else slice_get at.walk.program.listing.steps (at.walk.place - 1))
+    → StandsBefore tracked kept program most (listed program.listing.qubits program.products step) to found lines
+stands_before {tracked = tracked} program at {to = to} result {step = step} stands above same place words is taken =
+    let back : to.walk.place + 1 ≡ at.walk.place = omega (arith, place, above) in
+    record {
+      stands = record {
+        program_is = same ∙ stands.program_is;
+        store = stands.store;
+        passed = passed_as back (ap tracked words) stands.passed;
+      };
+      above = omega (arith, back, above);
+      step_is = walk_at at.walk.program program at.walk.place to.walk.place result step stands.program_is is place taken;
     }
 
 -- ---- a step gone over is a run of one

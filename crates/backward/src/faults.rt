@@ -1,11 +1,11 @@
 //! Going back over faults: the line of each.
-ghost use Rattle.std.specs.Prelude.{◌≡◌, ◌<◌, ◌≤◌, ◌+◌, length, reverse, All, OnOk};
+ghost use Rattle.std.specs.Prelude.{◌≡◌, ◌<◌, ◌+◌, length, reverse, All, OnOk};
 ghost use Rattle.step_model.specs.Listing.{Fault};
 ghost use Rattle.step_model.specs.Targets.{targets_of};
 ghost use Rattle.programs.specs.Kept.{kept_at};
 ghost use Rattle.programs.specs.Named.{IsNamed, IsNamedFlip};
 ghost use Rattle.backward.specs.private.Passes.{IsPassed, IsStepAt};
-ghost use Rattle.backward.specs.private.Steps.{AreGoneOver, IsGoneOver, StandsAt};
+ghost use Rattle.backward.specs.private.Steps.{AreGoneOver, IsGoneOver, StandsBefore};
 ghost use Rattle.backward.specs.private.Stretches.{Gives, flip_line, line_for};
 ghost use Rattle.trackers.specs.Tracked.{anticommuting};
 
@@ -151,10 +151,8 @@ pub(crate) fn faults_back<'s, 'p, 'a, A: Allocator + Copy, T: Tracker, L: LineSt
     found: &mut Found<'s, A>,
     lines: &mut L,
 ) -> Result<(), AllocError>
-    requires stands { StandsAt T.tracked L.program program.now (at.old.walk.place + 1) at.old
+    requires before { StandsBefore T.tracked L.program program.now to (Fault last.number) at.old
         found.old lines.old }
-    requires to { to ≤ at.old.walk.place }
-    requires step { IsStepAt program.now.listing at.old.walk.place (Fault last.number) }
     requires named { IsNamed program.now last }
     ensures { AreGoneOver T.tracked L.program L.holds program.now.listing to
         (at.old.walk.place + 1) at.old at.new found.old found.new lines.old lines.new result }

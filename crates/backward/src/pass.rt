@@ -1,9 +1,9 @@
 //! Going back over the steps of a program, one at a time, or over a run of faults at once.
-ghost use Rattle.std.specs.Prelude.{◌<◌, ◌≤◌, ◌+◌};
+ghost use Rattle.std.specs.Prelude.{◌<◌, ◌+◌};
 ghost use Rattle.programs.specs.Listed.{listed};
 ghost use Rattle.programs.specs.Named.{IsStepOf};
-ghost use Rattle.backward.specs.private.Passes.{IsFeedbackAt, IsPassed, IsStepAt};
-ghost use Rattle.backward.specs.private.Steps.{AreGoneOver, IsUndone, StandsAt};
+ghost use Rattle.backward.specs.private.Passes.{IsFeedbackAt, IsPassed};
+ghost use Rattle.backward.specs.private.Steps.{AreGoneOver, IsUndone, StandsAt, StandsBefore};
 
 use crate::collapse::collapse;
 use crate::faults::faults_back;
@@ -48,11 +48,8 @@ pub(crate) fn go_over<'s, 'p, 'a, A: Allocator + Copy, T: Tracker, L: LineStore>
     found: &mut Found<'s, A>,
     lines: &mut L,
 ) -> Result<(), AllocError>
-    requires stands { StandsAt T.tracked L.program program.now (at.old.walk.place + 1) at.old
-        found.old lines.old }
-    requires to { to ≤ at.old.walk.place }
-    requires step { IsStepAt program.now.listing at.old.walk.place
-        (listed program.now.listing.qubits program.now.products step) }
+    requires before { StandsBefore T.tracked L.program program.now to
+        (listed program.now.listing.qubits program.now.products step) at.old found.old lines.old }
     requires named { IsStepOf program.now step }
     ensures { AreGoneOver T.tracked L.program L.holds program.now.listing to
         (at.old.walk.place + 1) at.old at.new found.old found.new lines.old lines.new result }

@@ -1,15 +1,15 @@
 -- What going back over one step leaves. (This project's own.)
-use Rattle.std.specs.Prelude.{◌≡◌, ◌<◌, ◌≤◌, ℕ, List, Option, Result, OnOk, reverse}
+use Rattle.std.specs.Prelude.{◌≡◌, ◌<◌, ◌≤◌, ◌+◌, ℕ, List, Option, Result, OnOk, reverse}
 use Rattle.step_model.specs.declared.step.Term.{Term}
 use Rattle.step_model.specs.ErrorModels.{ErrorLine}
-use Rattle.step_model.specs.Listing.{Listing}
+use Rattle.step_model.specs.Listing.{Listing, ListedStep}
 use Rattle.programs.specs.Kept.{KeptProgram}
 use Rattle.programs.specs.declared.step.FaultName.{FaultName}
 use Rattle.backward.specs.declared.found.Found.{Found}
 use Rattle.backward.specs.declared.point.Point.{Point}
 use Rattle.trackers.specs.Tracked.{Tracked}
 use Rattle.backward.specs.private.Collapses.{members_at, undone_collapse}
-use Rattle.backward.specs.private.Passes.{IsPassed, Stays}
+use Rattle.backward.specs.private.Passes.{IsPassed, IsStepAt, Stays}
 use Rattle.backward.specs.private.Stretches.{Gives, flip_line, lines_at, lines_between}
 
 -- what is kept is that of going back to a place of a program, which a walk goes over, and whose lines a store takes
@@ -17,6 +17,12 @@ pub record StandsAt {A T L : Type 0} (tracked : T → Tracked) (kept : L → Kep
   pub program_is : at.walk.program ≡ program
   pub store : kept lines ≡ program
   pub passed : IsPassed program.listing place (tracked at.tracker) found
+
+-- a walk stands right before this step, whose words and lines aren't found yet, and goes on to a place at most
+pub record StandsBefore {A T L : Type 0} (tracked : T → Tracked) (kept : L → KeptProgram) (program : KeptProgram) (most : ℕ) (step : ListedStep) (at : Point A T) (found : Found A) (lines : L) : Type 0 where
+  pub stands : StandsAt tracked kept program (at.walk.place + 1) at found lines
+  pub above : most ≤ at.walk.place
+  pub step_is : IsStepAt program.listing at.walk.place step
 
 -- the step right after the place of a walk was gone back over: the words are those before it, and so is what is kept
 pub record IsUndone {A T U E : Type 0} (tracked : T → Tracked) (program : Listing) (from to : Point A T) (old new : Found A) (result : Result U E) : Type 0 where

@@ -14,10 +14,10 @@ loop-left-init g c =
     record {
       program_is = refl;
       store = refl;
-      above = c.requires.to;
+      above = c.requires.before.above;
       below = omega arith;
-      left = (c.requires.step, c.requires.named);
-      passed = c.requires.stands.passed;
+      left = (c.requires.before.step_is, c.requires.named);
+      passed = c.requires.before.stands.passed;
       stays = stays_as refl refl refl;
       lines = gives_same c.args.program.now.listing _ _ _ refl;
     }
@@ -55,7 +55,7 @@ loop-left-preserved-then-place-to g c =
       store = c.in_ok-fault.ensures.store ∙ l.invariant.store;
       above = omega (arith, back, here g over, one_at_most left, c.if-place-to.true, c.place.ensures);
       below = omega (arith, back, l.invariant.below);
-      left = is_pending now.at.walk.program program left now.at.walk.place place (same ∙ c.requires.stands.program_is) e.fault e.named e.back;
+      left = is_pending now.at.walk.program program left now.at.walk.place place (same ∙ c.requires.before.stands.program_is) e.fault e.named e.back;
       passed = subst (λ k. IsPassed program.listing k (g.T.Tracker.tracked now.at.tracker) now.found) (sym back) c.in_ok-fault.ensures.undone.passed;
       stays = stays_on c.args.found.now l.found now.found l.invariant.stays c.in_ok-fault.ensures.undone.stays;
       lines = subst (λ k. Gives (holds c.args.lines.now) (holds now.lines) (reverse (lines_between program.listing k (c.args.at.now.walk.place + 1)))) (sym back) (lines_of g over);

@@ -16,30 +16,35 @@ collapse-requires-clause-step g c =
     let program = c.args.program.now in
     let place = c.args.at.now.walk.place in
     let s = c.in-Collapse in
-    let at = at_step program place s.is c.requires.step in
+    let at = at_step program place s.is c.requires.before.step_is in
     let named = subst (IsStepOf program) s.is c.requires.named in
     letter_at_place program place s.letter s.qubit s.reset s.inverted s.rec s.flip c.then_some-reset.result at (c.then_some-reset.ensures ∙ some_where s.reset s.qubit) named.1 named.2 named.3
+
+pub faults_back-requires-clause-before : goal.faults_back-requires-clause-before
+faults_back-requires-clause-before g c =
+    let before = c.requires.before in
+    record { stands = before.stands; above = before.above; step_is = at_step c.args.program.now c.args.at.now.walk.place c.in-Fault.is before.step_is }
 
 pub returns-in-One : goal.returns-in-One
 returns-in-One g c =
     let at = c.args.at.now in
-    let there = at_step c.args.program.now at.walk.place c.in-One.is c.requires.step in
-    let passed = on_ok_weaker c.undo1.result (λ h. passed-one c.args.program.now at.walk.place (g.T.Tracker.tracked at.tracker) c.args.found.now c.requires.stands.passed c.in-One.gate c.in-One.q _ there h) c.undo1.ensures in
-    one_gone_over c.args.to c.requires.to (over_quiet c.args.lines.now c.undo1.result _ there refl (record { walk = refl; passed = passed; stays = stays_as refl refl refl }))
+    let there = at_step c.args.program.now at.walk.place c.in-One.is c.requires.before.step_is in
+    let passed = on_ok_weaker c.undo1.result (λ h. passed-one c.args.program.now at.walk.place (g.T.Tracker.tracked at.tracker) c.args.found.now c.requires.before.stands.passed c.in-One.gate c.in-One.q _ there h) c.undo1.ensures in
+    one_gone_over c.args.to c.requires.before.above (over_quiet c.args.lines.now c.undo1.result _ there refl (record { walk = refl; passed = passed; stays = stays_as refl refl refl }))
 
 pub returns-in-Two : goal.returns-in-Two
 returns-in-Two g c =
     let at = c.args.at.now in
-    let there = at_step c.args.program.now at.walk.place c.in-Two.is c.requires.step in
-    let passed = on_ok_weaker c.undo2.result (λ h. passed-two c.args.program.now at.walk.place (g.T.Tracker.tracked at.tracker) c.args.found.now c.requires.stands.passed c.in-Two.gate c.in-Two.a c.in-Two.b _ there h) c.undo2.ensures in
-    one_gone_over c.args.to c.requires.to (over_quiet c.args.lines.now c.undo2.result _ there refl (record { walk = refl; passed = passed; stays = stays_as refl refl refl }))
+    let there = at_step c.args.program.now at.walk.place c.in-Two.is c.requires.before.step_is in
+    let passed = on_ok_weaker c.undo2.result (λ h. passed-two c.args.program.now at.walk.place (g.T.Tracker.tracked at.tracker) c.args.found.now c.requires.before.stands.passed c.in-Two.gate c.in-Two.a c.in-Two.b _ there h) c.undo2.ensures in
+    one_gone_over c.args.to c.requires.before.above (over_quiet c.args.lines.now c.undo2.result _ there refl (record { walk = refl; passed = passed; stays = stays_as refl refl refl }))
 
 pub returns-in-Feedback : goal.returns-in-Feedback
 returns-in-Feedback g c =
-    one_gone_over c.args.to c.requires.to (over_quiet c.args.lines.now c.feedback.result _ (at_step c.args.program.now c.args.at.now.walk.place c.in-Feedback.is c.requires.step) refl c.feedback.ensures)
+    one_gone_over c.args.to c.requires.before.above (over_quiet c.args.lines.now c.feedback.result _ (at_step c.args.program.now c.args.at.now.walk.place c.in-Feedback.is c.requires.before.step_is) refl c.feedback.ensures)
 
 pub returns-in-Collapse : goal.returns-in-Collapse
-returns-in-Collapse g c = one_gone_over c.args.to c.requires.to c.collapse.ensures
+returns-in-Collapse g c = one_gone_over c.args.to c.requires.before.above c.collapse.ensures
 
 pub returns-in-CollapseWord : goal.returns-in-CollapseWord
-returns-in-CollapseWord g c = one_gone_over c.args.to c.requires.to c.collapse-in-CollapseWord.ensures
+returns-in-CollapseWord g c = one_gone_over c.args.to c.requires.before.above c.collapse-in-CollapseWord.ensures

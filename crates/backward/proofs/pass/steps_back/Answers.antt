@@ -1,26 +1,15 @@
-use Rattle.std.proofs.Common.{◌≡◌, ◌+◌, subst, ◌∙◌, arith}
+use Rattle.std.proofs.Common.{◌≡◌, ◌+◌, refl, subst, ◌∙◌, arith}
 use Rattle.std.specs.Prelude.{reverse}
 use Rattle.std.proofs.lemmas.Result.{on_ok_weaker}
-use Rattle.backward.specs.private.Passes.{IsPassed}
 use Rattle.backward.specs.private.Stretches.{Gives, lines_between}
-use Rattle.backward.proofs.PassSteps.{walk_at, walk_end}
+use Rattle.backward.proofs.PassSteps.{walk_end}
+use Rattle.backward.proofs.StepLemmas.{stands_before}
 use Rattle.backward.proofs.pass.steps_back.Goals as goal
 
-pub go_over-requires-clause-step : goal.go_over-requires-clause-step
-go_over-requires-clause-step g c =
-    let walk = c.args.at.now.walk in
-    walk_at walk.program c.args.program.now walk.place c.previous_step.new.self.place c.previous_step.result c.in-Some.step c.requires.stands.program_is c.in-Some.is c.previous_step.ensures.place c.previous_step.ensures.step
-
-pub go_over-requires-clause-stands : goal.go_over-requires-clause-stands
-go_over-requires-clause-stands g c =
-    let at = c.args.at.now in
-    let stands = c.requires.stands in
-    let back : at.walk.place ≡ c.previous_step.new.self.place + 1 = omega (arith, c.previous_step.ensures.place, c.requires.to) in
-    record {
-      program_is = c.previous_step.ensures.program ∙ stands.program_is;
-      store = stands.store;
-      passed = subst (λ k. IsPassed c.args.program.now.listing k (g.T.Tracker.tracked at.tracker) c.args.found.now) back stands.passed;
-    }
+pub go_over-requires-clause-before : goal.go_over-requires-clause-before
+go_over-requires-clause-before g c =
+    let e = c.previous_step.ensures in
+    stands_before c.args.program.now c.args.at.now c.previous_step.result c.requires.stands c.requires.to e.program e.place refl c.in-Some.is e.step
 
 pub returns-in-Some : goal.returns-in-Some
 returns-in-Some g c =

@@ -2,13 +2,13 @@ use Rattle.std.proofs.Common.{◌≡◌, ◌+◌, refl, subst, ◌∙◌, arith}
 use Rattle.backward.specs.private.Passes.{IsPassed}
 use Rattle.backward.proofs.PassFaults.{passed-faults}
 use Rattle.backward.proofs.PassSteps.{passed-fault, walk_at, walk_end}
-use Rattle.backward.proofs.StepLemmas.{at_step}
+use Rattle.backward.proofs.StepLemmas.{at_step, stands_before}
 use Rattle.backward.proofs.points.back_without_lines.Goals as goal
 
-pub go_over-requires-clause-step : goal.go_over-requires-clause-step
-go_over-requires-clause-step g c =
-    let walk = c.args.at.now.walk in
-    walk_at walk.program c.args.program.now walk.place c.previous_step.new.self.place c.previous_step.result c.in-Some.step c.requires.program c.in-Some.is c.previous_step.ensures.place c.previous_step.ensures.step
+pub go_over-requires-clause-before : goal.go_over-requires-clause-before
+go_over-requires-clause-before g c =
+    let e = c.previous_step.ensures in
+    stands_before c.args.program.now c.args.at.now c.previous_step.result (record { program_is = c.requires.program; store = refl; passed = c.requires.passed }) c.requires.to e.program e.place refl c.in-Some.is e.step
 
 pub returns-in-Some-Fault-clause-passed : goal.returns-in-Some-Fault-clause-passed
 returns-in-Some-Fault-clause-passed g c =
