@@ -1,4 +1,8 @@
 //! Circuits worked by hand, whose error models are written in parts of several sizes, by both trackers.
+ghost use Rattle.std.specs.Prelude.{◌≡◌, length};
+ghost use Rattle.step_model.specs.Targets.{targets_of};
+ghost use Rattle.trackers.specs.Tracked.{fresh};
+
 mod rows;
 
 use crate::tests::words::{dense_words, sparse_words};
@@ -8,6 +12,7 @@ use rows::ROWS;
 use std::alloc::{AllocError, Global};
 use step_model::{Fault, MemorySink, Place};
 use test_support::text_of;
+use trackers::Tracker;
 use unroll::read_program;
 
 /// How much text of error lines is held at once: none, so that each step with a line is a cut; a line or two; a few; and all.
@@ -16,51 +21,19 @@ const ROOMS: [usize; 4] = [0, 30, 100, 10_000];
 /// The lowest random target with its place, where there is one.
 type Random = Option<(u32, Place)>;
 
-/// The analysis by lists of targets.
-fn write_by_sparse(
+/// Whether the analysis with these words, the identity for each target, writes the answer.
+fn holds<T: Tracker + Drop>(
     alloc: Global,
     program: &Program<'_, Global>,
-    room: usize,
-    sink: &mut MemorySink<Global>,
-) -> Result<Random, Fault> {
-    match sparse_words(&alloc, program) {
-        Ok(words) => write_in_parts(alloc, program, words, room, sink),
-        Err(_) => Err(Fault::MEMORY),
-    }
-}
-
-/// The analysis by rows of bits.
-fn write_by_dense(
-    alloc: Global,
-    program: &Program<'_, Global>,
-    room: usize,
-    sink: &mut MemorySink<Global>,
-) -> Result<Random, Fault> {
-    match dense_words(alloc, program) {
-        Ok(words) => write_in_parts(alloc, program, words, room, sink),
-        Err(_) => Err(Fault::MEMORY),
-    }
-}
-
-fn sparse_holds(
-    alloc: Global,
-    program: &Program<'_, Global>,
+    words: T,
     room: usize,
     answer: &str,
-) -> Result<bool, Fault> {
+) -> Result<bool, Fault>
+    requires { T.tracked words
+        ≡ fresh program.now.listing.qubits (length (targets_of program.now.listing)) }
+{
     let mut sink = MemorySink::new(alloc);
-    let random = write_by_sparse(alloc, program, room, &mut sink)?;
-    Ok(is_answer(alloc, random, sink.bytes(), answer)?)
-}
-
-fn dense_holds(
-    alloc: Global,
-    program: &Program<'_, Global>,
-    room: usize,
-    answer: &str,
-) -> Result<bool, Fault> {
-    let mut sink = MemorySink::new(alloc);
-    let random = write_by_dense(alloc, program, room, &mut sink)?;
+    let random = write_in_parts(alloc, program, words, room, &mut sink)?;
     Ok(is_answer(alloc, random, sink.bytes(), answer)?)
 }
 
@@ -93,10 +66,10 @@ fn name_of(alloc: Global, which: u32, place: Place) -> Result<String, AllocError
 
 fn all_hold(alloc: Global, program: &Program<'_, Global>, answer: &str) -> Result<bool, Fault> {
     for room in ROOMS {
-        if !sparse_holds(alloc, program, room, answer)? {
+        if !holds(alloc, program, sparse_words(&alloc, program)?, room, answer)? {
             return Ok(false);
         }
-        if !dense_holds(alloc, program, room, answer)? {
+        if !holds(alloc, program, dense_words(alloc, program)?, room, answer)? {
             return Ok(false);
         }
     }
