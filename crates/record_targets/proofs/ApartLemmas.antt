@@ -8,7 +8,8 @@ use Rattle.std.proofs.Math.Seq.{take-set-lt}
 use Rattle.pauli_word.specs.Parity.{exclusive_or}
 use Rattle.pauli_word.proofs.Parities.{exclusive_or_assoc}
 use Rattle.step_model.specs.Targets.{is_listed}
-use Rattle.record_targets.specs.private.Apart.{with_apart, AreToggled}
+use Rattle.record_targets.specs.private.Apart.{with_apart, AreToggled, IsApart}
+use Rattle.record_targets.specs.private.RecordSets.{AreAsLong}
 use Rattle.record_targets.specs.ListingSets.{toggled_each}
 use Rattle.step_model.specs.TargetSets.{members, row_of_set}
 use Rattle.record_targets.proofs.LinkLemmas.{put_members, toggled_from_none}
@@ -42,9 +43,14 @@ same_lengths m n old new count of_old of_new all k d lt =
     let within : k < length old = omega (arith, lt, count) in
     of_new k d lt ∙ (sym (of_old k d within) ∙ all k d within)
 
-pub within_as_long : (apart : Option ℕ) (rows new_rows : List (List Bool)) → length new_rows ≡ length rows → IfSome apart (λ r. r < length rows) → IfSome apart (λ r. r < length new_rows)
-within_as_long None rows new_rows count h = tt
-within_as_long (Some r) rows new_rows count h = omega (arith, h, count)
+within_as_many : (apart : Option ℕ) (rows new_rows : List (List Bool)) → length new_rows ≡ length rows → IfSome apart (λ r. r < length rows) → IfSome apart (λ r. r < length new_rows)
+within_as_many None rows new_rows count h = tt
+within_as_many (Some r) rows new_rows count h = omega (arith, h, count)
+
+-- a set is apart from other rows that are as long
+pub apart_as_long : (m : ℕ) (rows new_rows : List (List Bool)) (apart : Option ℕ) (set : List ℕ) → AreAsLong rows new_rows → IsApart m rows apart set → IsApart m new_rows apart set
+apart_as_long m rows new_rows apart set as_long is =
+    record { long = as_long.long m is.long; within = within_as_many apart rows new_rows as_long.len is.within; below = is.below }
 
 -- the members of a row stand for it
 pub row_of_members : (m : ℕ) (row : List Bool) → length row ≡ m → row_of_set m (members row) ≡ row
