@@ -1,12 +1,12 @@
 -- The sets of records where that of one is apart, and lists of targets by parity.
-use Rattle.std.proofs.Common.{◌≡◌, ℕ, zero, suc, ◌+◌, ◌<◌, ◌==◌, Bool, true, false, List, [], ◌∷◌, ◌++◌, length, get_or, set, take, drop, inl, inr, refl, ap, ap₂, subst, sym, ◌∙◌, arith}
+use Rattle.std.proofs.Common.{◌≡◌, ℕ, zero, suc, ◌+◌, ◌<◌, ◌==◌, Bool, false, List, [], ◌∷◌, ◌++◌, length, get_or, set, take, drop, inl, inr, refl, ap, ap₂, subst, sym, ◌∙◌, arith}
 use Rattle.std.specs.Prelude.{All, IfSome, Option, None, Some, replicate}
 use Rattle.std.proofs.lemmas.Bool.{cases_lt}
 use Rattle.std.proofs.lemmas.List.Elements.{All-append, All-drop, All-set}
 use Rattle.std.proofs.lemmas.List.{length-set, set-set, get_or-set_same, take-set-le, ext_get_or, drop_more}
 use Rattle.std.proofs.Math.Seq.{take-set-lt}
 use Rattle.pauli_word.specs.Parity.{exclusive_or}
-use Rattle.pauli_word.proofs.Parities.{exclusive_or_assoc}
+use Rattle.pauli_word.proofs.Parities.{exclusive_or_assoc, exclusive_or_comm, exclusive_or_left_comm, exclusive_or_middle, exclusive_or_self}
 use Rattle.step_model.specs.Targets.{is_listed}
 use Rattle.record_targets.specs.private.Apart.{with_apart, AreToggled, IsApart}
 use Rattle.record_targets.specs.private.RecordSets.{AreAsLong}
@@ -91,33 +91,17 @@ listed_both [] ys t = refl
 listed_both (x ∷ xs) ys t = ap (exclusive_or (x == t)) (listed_both xs ys t) ∙ sym (exclusive_or_assoc (x == t) (is_listed xs t) (is_listed ys t))
 
 first_moves : (x into set targets : Bool) → exclusive_or (exclusive_or x into) (exclusive_or targets set) ≡ exclusive_or into (exclusive_or targets (exclusive_or x set))
-first_moves false into set targets = refl
-first_moves true false false false = refl
-first_moves true false false true = refl
-first_moves true false true false = refl
-first_moves true false true true = refl
-first_moves true true false false = refl
-first_moves true true false true = refl
-first_moves true true true false = refl
-first_moves true true true true = refl
+first_moves x into set targets =
+    ap (λ a. exclusive_or a (exclusive_or targets set)) (exclusive_or_comm x into)
+    ∙ (exclusive_or_assoc into x (exclusive_or targets set) ∙ ap (exclusive_or into) (exclusive_or_left_comm x targets set))
 
 second_moves : (x into set targets : Bool) → exclusive_or (exclusive_or x into) (exclusive_or targets set) ≡ exclusive_or into (exclusive_or (exclusive_or x targets) set)
-second_moves false into set targets = refl
-second_moves true false false false = refl
-second_moves true false false true = refl
-second_moves true false true false = refl
-second_moves true false true true = refl
-second_moves true true false false = refl
-second_moves true true false true = refl
-second_moves true true true false = refl
-second_moves true true true true = refl
+second_moves x into set targets =
+    first_moves x into set targets ∙ ap (exclusive_or into) (exclusive_or_left_comm targets x set ∙ sym (exclusive_or_assoc x targets set))
 
 both_go : (x into set targets : Bool) → exclusive_or into (exclusive_or targets set) ≡ exclusive_or into (exclusive_or (exclusive_or x targets) (exclusive_or x set))
-both_go false into set targets = refl
-both_go true into false false = refl
-both_go true into false true = refl
-both_go true into true false = refl
-both_go true into true true = refl
+both_go x into set targets =
+    ap (exclusive_or into) (sym (exclusive_or_middle x targets x set ∙ ap (λ a. exclusive_or a (exclusive_or targets set)) (exclusive_or_self x)))
 
 -- what is merged so far, with what is left of both
 abbrev pub merged : List ℕ → List ℕ → List ℕ → ℕ → Bool
@@ -146,17 +130,7 @@ pub merged_rest : (into targets set : List ℕ) (t : ℕ) → is_listed ((into +
 merged_rest into targets xs t =
     listed_both (into ++ xs) targets t
     ∙ (ap (λ b. exclusive_or b (is_listed targets t)) (listed_both into xs t)
-    ∙ turned (is_listed into t) (is_listed xs t) (is_listed targets t))
-  where
-    turned : (a b c : Bool) → exclusive_or (exclusive_or a b) c ≡ exclusive_or a (exclusive_or c b)
-    turned false false false = refl
-    turned false false true = refl
-    turned false true false = refl
-    turned false true true = refl
-    turned true false false = refl
-    turned true false true = refl
-    turned true true false = refl
-    turned true true true = refl
+    ∙ (exclusive_or_assoc (is_listed into t) (is_listed xs t) (is_listed targets t) ∙ ap (exclusive_or (is_listed into t)) (exclusive_or_comm (is_listed xs t) (is_listed targets t))))
 
 -- ---- all are below a bound
 pub below_pushed : (m x : ℕ) (into new : List ℕ) → new ≡ into ++ x ∷ [] → All (λ t. t < m) into → x < m → All (λ t. t < m) new
