@@ -1,7 +1,7 @@
 ghost use Rattle.std.specs.Prelude.{◌≡◌};
 ghost use Rattle.std.specs.List.{list_all};
 ghost use Rattle.stim_parser.specs.Numbers.{is_number_beyond};
-ghost use Rattle.dem_text.specs.Limits.{are_of_form, has_target_beyond, is_detector, is_effect, is_observable, is_one_number, is_target_beyond};
+ghost use Rattle.dem_text.specs.Limits.{are_of_form, is_detector, is_effect, is_observable, is_one_number, is_target_beyond};
 
 use crate::forms::TargetForm;
 use crate::target::Target;
@@ -88,12 +88,4 @@ pub fn is_target_beyond(target: Target) -> bool
         Target::Observable(observable) => observable > GREATEST_OBSERVABLE,
         Target::Separator => false,
     }
-}
-
-/// Whether the number of one of the targets is beyond its limit.
-#[tactic(auto, unfolding(crate::specs::Limits::has_target_beyond))]
-pub(crate) fn has_target_beyond(targets: &[Target]) -> bool
-    ensures { result ≡ has_target_beyond targets.now }
-{
-    targets.iter().any(|target| is_target_beyond(*target))
 }

@@ -5,8 +5,8 @@ ghost use Rattle.stim_parser.specs.Judging.{reading_of};
 ghost use Rattle.dem_text.specs.Fitting as fitting;
 ghost use Rattle.dem_text.specs.Verdicts.{model_table, number_in};
 
-use crate::checks::{GREATEST_NUMBER, are_of_form, has_target_beyond};
-use crate::forms::{TargetForm, argument_form, target_form};
+use crate::checks::{GREATEST_NUMBER, are_of_form, is_target_beyond};
+use crate::forms::TargetForm;
 use crate::names::keyword_named;
 use crate::operation::Operation;
 use crate::target::{Target, read_targets};
@@ -43,11 +43,17 @@ impl Judge<Operation, Target, TargetForm> for ModelJudge {
         Cause::DemName
     }
 
-    #[inline(always)]
     fn argument_form(keyword: Keyword<Operation>) -> ArgumentForm
         ensures { result ≡ model_table.argument_form keyword }
     {
-        argument_form(keyword)
+        match keyword {
+            Keyword::Does(Operation::PauliError) => ArgumentForm::OneProbability,
+            Keyword::Does(Operation::DetectorDeclaration) | Keyword::Does(Operation::Shifts) => {
+                ArgumentForm::WholeNumbers
+            }
+            Keyword::Does(Operation::ObservableInclude) | Keyword::Repeats =>
+                ArgumentForm::NoArguments,
+        }
     }
 
     #[inline(always)]
@@ -55,11 +61,15 @@ impl Judge<Operation, Target, TargetForm> for ModelJudge {
         GREATEST_NUMBER
     }
 
-    #[inline(always)]
     fn target_form(keyword: Keyword<Operation>) -> TargetForm
         ensures { result ≡ model_table.target_form keyword }
     {
-        target_form(keyword)
+        match keyword {
+            Keyword::Does(Operation::PauliError) => TargetForm::Effects,
+            Keyword::Does(Operation::DetectorDeclaration) => TargetForm::Detectors,
+            Keyword::Does(Operation::ObservableInclude) => TargetForm::Observables,
+            Keyword::Does(Operation::Shifts) | Keyword::Repeats => TargetForm::OneNumber,
+        }
     }
 
     #[inline(always)]
@@ -76,9 +86,9 @@ impl Judge<Operation, Target, TargetForm> for ModelJudge {
         are_of_form(form, targets)
     }
 
-    #[inline(always)]
+    #[tactic(auto, unfolding(crate::specs::Limits::has_target_beyond))]
     fn has_target_beyond(_: TargetForm, targets: &[Target]) -> bool {
-        has_target_beyond(targets)
+        targets.iter().any(|target| is_target_beyond(*target))
     }
 
     #[inline(always)]

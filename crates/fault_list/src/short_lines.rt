@@ -1,5 +1,5 @@
 //! Short lines, put into a buffer one after another.
-ghost use Rattle.std.specs.Prelude.{◌≡◌, ◌≤◌, ◌+◌, ◌*◌, ◌++◌, None, codes, decimal, length, take, IfSome};
+ghost use Rattle.std.specs.Prelude.{◌≡◌, ℕ, ◌≤◌, ◌+◌, ◌*◌, ◌++◌, None, codes, decimal, length, take, IfSome};
 ghost use Rattle.programs.specs.Found.{IsFaultOf};
 ghost use Rattle.programs.specs.Entries.{TellsChances};
 ghost use Rattle.step_model.specs.Listing.{effect_at, word_of_terms};
@@ -92,15 +92,12 @@ fn put_effect<'t, 'a, A: Allocator + Copy>(
     program.well_formed();
     match fault.flips {
         Some(r) => Some(put_record(buffer, at, &mut texts.record, r)),
-        None => {
-            put_word(
-                buffer,
-                at,
-                &mut texts.names,
-                program.qubits(),
-                program.entry_terms(fault.entry),
-            )
-        }
+        None => put_word(
+            buffer,
+            at,
+            &mut texts.names,
+            program.entry_terms(fault.entry),
+        ),
     }
 }
 
@@ -118,25 +115,18 @@ fn put_record(buffer: &mut [u8], at: usize, record: &mut Counter, r: u32) -> usi
 // Puts the word of some terms. Two at descending qubits are exchanged first. One or two, as most words have, are written
 // with no loop.
 #[inline(always)]
-fn put_word(
-    buffer: &mut [u8],
-    at: usize,
-    names: &mut QubitNames,
-    qubits: u32,
-    terms: &[Term],
-) -> Option<usize>
-    requires room { at + WORD + 8 ≤ length buffer.old }
-    requires fit { TermsFit qubits terms.now }
-    ensures { Puts WORD at (word_text (word_of_terms qubits terms.now)) buffer.old buffer.new
-        result }
+fn put_word(buffer: &mut [u8], at: usize, names: &mut QubitNames, terms: &[Term]) -> Option<usize>
+    requires { at + WORD + 8 ≤ length buffer.old }
+    ensures { (qubits : ℕ) → TermsFit qubits terms.now
+        → Puts WORD at (word_text (word_of_terms qubits terms.now)) buffer.old buffer.new result }
 {
     match terms {
-        [only] => put_ordered(buffer, at, names, qubits, &[*only]),
+        [only] => put_ordered(buffer, at, names, &[*only]),
         [first, second] if second.qubit < first.qubit => {
-            put_ordered(buffer, at, names, qubits, &[*second, *first])
+            put_ordered(buffer, at, names, &[*second, *first])
         }
-        [first, second] => put_ordered(buffer, at, names, qubits, &[*first, *second]),
-        _ => put_ordered(buffer, at, names, qubits, terms),
+        [first, second] => put_ordered(buffer, at, names, &[*first, *second]),
+        _ => put_ordered(buffer, at, names, terms),
     }
 }
 
@@ -147,13 +137,11 @@ fn put_ordered(
     buffer: &mut [u8],
     at: usize,
     names: &mut QubitNames,
-    qubits: u32,
     terms: &[Term],
 ) -> Option<usize>
-    requires room { at + WORD + 8 ≤ length buffer.old }
-    requires fit { TermsFit qubits terms.now }
-    ensures { Puts WORD at (word_text (word_of_terms qubits terms.now)) buffer.old buffer.new
-        result }
+    requires { at + WORD + 8 ≤ length buffer.old }
+    ensures { (qubits : ℕ) → TermsFit qubits terms.now
+        → Puts WORD at (word_text (word_of_terms qubits terms.now)) buffer.old buffer.new result }
 {
     if terms.len() > SHORT_TERMS || !is_ordered(terms) {
         return None;

@@ -1,8 +1,9 @@
 -- How many pieces a cut has, which piece is at an index, and one more piece at the end.
 use Rattle.std.proofs.Common.{◌≡◌, ℕ, ◌+◌, ◌-◌, ◌<◌, ◌≤◌, zero, suc, List, [], ◌∷◌, ◌++◌, length, get_or, take, drop, Some, refl, sym, ap, ◌∙◌, arith, slice_get}
-use Rattle.std.specs.Prelude.{slice_range}
+use Rattle.std.specs.Prelude.{All, slice_range}
 use Rattle.std.proofs.lemmas.List.{drop_at, drop-append-le, take-append-drop, take-append-le, take_all, length-drop, length-take, get_or_read}
-use Rattle.flat_lists.specs.private.Cuts.{cut, AreEnds}
+use Rattle.std.proofs.lemmas.List.Elements.{All-cons, All-drop, All-nil, All-take}
+use Rattle.flat_lists.specs.Cuts.{cut, AreEnds}
 
 -- as many pieces as ends
 pub length-cut : {X : Type 0} → (start : ℕ) (ends : List ℕ) (items : List X) → length (cut start ends items) ≡ length ends
@@ -15,7 +16,7 @@ slice_get-cut start [] items k h = absurd (omega arith)
 slice_get-cut start (end ∷ ends) items zero h = refl
 slice_get-cut start (end ∷ ends) items (suc k) h = slice_get-cut end ends items k (omega arith)
 
-get_or-cut : {X : Type 0} → (start : ℕ) (ends : List ℕ) (items : List X) (k : ℕ) → k < length ends → get_or (cut start ends items) k [] ≡ slice_range items (get_or (start ∷ ends) k 0) (get_or ends k 0)
+pub get_or-cut : {X : Type 0} → (start : ℕ) (ends : List ℕ) (items : List X) (k : ℕ) → k < length ends → get_or (cut start ends items) k [] ≡ slice_range items (get_or (start ∷ ends) k 0) (get_or ends k 0)
 get_or-cut start [] items k h = absurd (omega arith)
 get_or-cut start (end ∷ ends) items zero h = refl
 get_or-cut start (end ∷ ends) items (suc k) h = get_or-cut end ends items k (omega arith)
@@ -24,6 +25,18 @@ get_or-cut start (end ∷ ends) items (suc k) h = get_or-cut end ends items k (o
 pub start_le_count : (start : ℕ) (ends : List ℕ) (count : ℕ) → AreEnds start ends count → start ≤ count
 start_le_count start [] count h = omega arith
 start_le_count start (end ∷ ends) count h = omega (arith, start_le_count end ends count h.1)
+
+-- ends that never fall, of which the last is the count
+pub rising_ends : (start : ℕ) (ends : List ℕ) (count : ℕ) → ((k : ℕ) → k < length ends → get_or (start ∷ ends) k 0 ≤ get_or ends k 0) → get_or (start ∷ ends) (length ends) 0 ≡ count → AreEnds start ends count
+rising_ends start [] count rises last = last
+rising_ends start (end ∷ ends) count rises last =
+    (rises 0 (omega arith), rising_ends end ends count (λ k lt. rises (suc k) (omega (arith, lt))) last)
+
+-- what holds of all items holds of those of each piece
+pub All-cut : {X : Type 0} (P : X → Type 0) (start : ℕ) (ends : List ℕ) (items : List X) → All P items → All (All P) (cut start ends items)
+All-cut P start [] items h = All-nil (All P)
+All-cut P start (end ∷ ends) items h =
+    All-cons (All P) (slice_range items start end) (cut end ends items) (All-take P (end - start) (drop start items) (All-drop P start items h)) (All-cut P end ends items h)
 
 -- each piece is a part of the list
 piece_in_range : (start : ℕ) (ends : List ℕ) (count k : ℕ) → AreEnds start ends count → k < length ends → (get_or (start ∷ ends) k 0 ≤ get_or ends k 0) × (get_or ends k 0 ≤ count)

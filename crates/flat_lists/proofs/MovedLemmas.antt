@@ -4,7 +4,7 @@ use Rattle.std.specs.Prelude.{All, slice_range, ◌^◌}
 use Rattle.std.proofs.Math.Seq.{take-add}
 use Rattle.std.proofs.lemmas.List.{drop-drop, drop-map, drop-take, get_or-drop, get_or-take, get_or_append_left, get_or_read, length-map, length-take-le, map_more, take-map}
 use Rattle.std.proofs.lemmas.List.Elements.{All-append}
-use Rattle.flat_lists.specs.private.Cuts.{cut, AreEnds}
+use Rattle.flat_lists.specs.Cuts.{cut, AreEnds}
 use Rattle.flat_lists.proofs.CutLemmas.{length-cut, slice_range-append_left, start_le_count}
 
 -- ---- numbers that are copied one by one

@@ -3,7 +3,7 @@ use Rattle.std.proofs.Common.{◌≡◌, ℕ, ◌+◌, ◌-◌, ◌<◌, ◌≤�
 use Rattle.std.specs.Prelude.{slice_range}
 use Rattle.std.proofs.lemmas.Bool.{cases_eq}
 use Rattle.std.proofs.lemmas.List.{drop-set-lt, drop-set-add, get_or_read, length-drop, length-set, length-take-le, take-set-le, take_more_set}
-use Rattle.flat_lists.specs.private.Cuts.{cut, AreEnds}
+use Rattle.flat_lists.specs.Cuts.{cut, AreEnds}
 use Rattle.flat_lists.specs.private.Rooms.{held, AreFull, AreRooms, end_of, ends_from}
 
 -- ---- ends

@@ -1,3 +1,4 @@
+pub mod Cuts
 pub mod Short
 pub mod Turns
 pub mod private

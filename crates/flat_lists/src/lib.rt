@@ -2,6 +2,7 @@
 //! take two blocks of memory in all, instead of one each. Lists of whole numbers are kept in bytes.
 #![tactic(auto)]
 
+ghost use Rattle.flat_lists.specs.Cuts.{cut, AreEnds};
 ghost use Rattle.std.specs.Prelude.{◌≡◌, ◌+◌, ◌-◌, ◌<◌, ◌==◌, [], ◌∷◌, ◌++◌, length, take, IfOk, OnOk, OnErr, Some, slice_get, slice_index, slice_index_or};
 
 mod moved_lists;
@@ -24,7 +25,7 @@ pub struct FlatLists<T: Copy, A: Allocator + Copy> {
 
 impl<T: Copy, A: Allocator + Copy> Model for FlatLists<T, A> {
     ghost use Rattle.std.specs.Prelude.{List, length};
-    ghost use Rattle.flat_lists.specs.private.Cuts.{cut, AreEnds};
+    ghost use Rattle.flat_lists.specs.Cuts.{cut, AreEnds};
 
     ghost Value = { List (List T) };
 
@@ -71,6 +72,14 @@ impl<T: Copy, A: Allocator + Copy> FlatLists<T, A> {
             items: Vec::with_capacity(alloc, items)?,
             ends: Vec::with_capacity(alloc, lists)?,
         })
+    }
+
+    /// The lists that these items make, cut at these ends.
+    pub fn cut(items: Vec<T, A>, ends: Vec<u32, A>) -> Self
+        requires { AreEnds 0 ends.items (length items.items) }
+        ensures { result ≡ cut 0 ends.items items.items }
+    {
+        FlatLists { items, ends }
     }
 
     /// How many lists there are.

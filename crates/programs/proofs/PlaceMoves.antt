@@ -48,8 +48,24 @@ module _ (nodes : List Node) (circuit : IsCircuit nodes) where
   pub forward_at : (i : ℕ) (turns : List ℕ) (k : ℕ) (o : Option Node) → IsPlace (tree_of nodes) i turns k → slice_get nodes i ≡ o → Forward (tree_of nodes) i turns k o
   forward_at i turns k o h e = subst (Forward (tree_of nodes) i turns k) (there i o e) (forward (tree_of nodes) i turns k circuit.full h)
 
-  pub backward_at : (i : ℕ) (turns : List ℕ) (k : ℕ) (o : Option Node) → IsPlace (tree_of nodes) (i + 1) turns k → slice_get nodes i ≡ o → Backward (tree_of nodes) i turns k o
-  backward_at i turns k o h e = subst (Backward (tree_of nodes) i turns k) (there i o e) (backward (tree_of nodes) i turns k circuit.full h)
+  -- the node before a place, at the index one less
+  record Before (i : ℕ) (node : Node) : Type 0 where
+    pub i_is : i ≡ (i - 1) + 1
+    pub node_is : slice_get nodes (i - 1) ≡ Some node
+
+  before : (i : ℕ) (node : Node) → node_before nodes i ≡ Some node → Before i node
+  before zero node h = cc
+  before (suc i) node h = let same : suc i - 1 ≡ i = omega arith in record { i_is = omega arith; node_is = ap (slice_get nodes) same ∙ h }
+
+  -- the node before an index after one
+  pub node_before-suc : (i j : ℕ) → j ≡ i + 1 → node_before nodes j ≡ slice_get nodes i
+  node_before-suc i zero h = absurd (omega arith)
+  node_before-suc i (suc j) h = let same : j ≡ i = omega arith in ap (slice_get nodes) same
+
+  backward_from : (i : ℕ) (turns : List ℕ) (k : ℕ) (node : Node) → IsPlace (tree_of nodes) i turns k → node_before nodes i ≡ Some node → Backward (tree_of nodes) (i - 1) turns k (Some node)
+  backward_from i turns k node h e =
+      let b = before i node e in
+      subst (Backward (tree_of nodes) (i - 1) turns k) (there (i - 1) _ b.node_is) (backward (tree_of nodes) (i - 1) turns k circuit.full (moved (tree_of nodes) b.i_is refl refl h))
 
   back_at : (i j : ℕ) (o : Option Node) → slice_get (nodes_of (tree_of nodes)) i ≡ o → slice_get nodes i ≡ o
   back_at i j o h = sym (ap (λ (ns : List Node). slice_get ns i) circuit.written) ∙ h
@@ -82,9 +98,11 @@ module _ (nodes : List Node) (circuit : IsCircuit nodes) where
   no_open_before i j count size h e =
       no_open (slice_get nodes i) (λ oc os k. apart (tree_of nodes) i j oc os count size circuit.full e (there i _ k) (there j _ h))
 
-  pub no_open_at_turn : (i j count size : ℕ) → slice_get nodes i ≡ Some (Open count size) → j ≡ i + size → IsNoOpen (slice_get nodes j)
-  no_open_at_turn i j count size h e =
-      no_open_before j (i + 1 + size) count size (back_at (i + 1 + size) 0 _ (closed (tree_of nodes) i count size (there i _ h))) (omega arith)
+  pub no_open_at_turn : (i count size : ℕ) → node_before nodes i ≡ Some (Open count size) → IsNoOpen (node_before nodes (i + size))
+  no_open_at_turn i count size h =
+      let b = before i (Open count size) h in
+      let end = back_at (i - 1 + 1 + size) 0 _ (closed (tree_of nodes) (i - 1) count size (there (i - 1) _ b.node_is)) in
+      subst IsNoOpen (sym (node_before-suc (i - 1 + size) (i + size) (omega (arith, b.i_is)))) (no_open_before (i - 1 + size) (i - 1 + 1 + size) count size end (omega arith))
 
   -- a place that leaves a turn, whose number is the last
   pub record Leaves (i : ℕ) (outer : List ℕ) (k count size turn : ℕ) : Type 0 where
@@ -109,23 +127,22 @@ module _ (nodes : List Node) (circuit : IsCircuit nodes) where
         out = λ last. moved (tree_of nodes) refl outer_is refl (o.out (exactly o.turn turn count turn_is o.below last));
       }
 
-  pub record LeavesBack (i : ℕ) (outer : List ℕ) (k count size turn : ℕ) : Type 0 where
-    pub below : turn < count
+  pub record LeavesBack (i : ℕ) (outer : List ℕ) (k size turn : ℕ) : Type 0 where
     pub room : length outer < 32
-    pub again : 0 < turn → IsPlace (tree_of nodes) (i + 1 + size) (outer ++ (turn - 1) ∷ []) k
-    pub out : (0 < turn → ⊥) → IsPlace (tree_of nodes) i outer k
+    pub again : 0 < turn → IsPlace (tree_of nodes) (i + size) (outer ++ (turn - 1) ∷ []) k
+    pub out : (0 < turn → ⊥) → IsPlace (tree_of nodes) (i - 1) outer k
 
-  pub leaves_back : (i : ℕ) (turns : List ℕ) (k count size : ℕ) (outer : List ℕ) (turn : ℕ) → IsPlace (tree_of nodes) (i + 1) turns k → slice_get nodes i ≡ Some (Open count size) → turns ≡ outer ++ turn ∷ [] → LeavesBack i outer k count size turn
+  pub leaves_back : (i : ℕ) (turns : List ℕ) (k count size : ℕ) (outer : List ℕ) (turn : ℕ) → IsPlace (tree_of nodes) i turns k → node_before nodes i ≡ Some (Open count size) → turns ≡ outer ++ turn ∷ [] → LeavesBack i outer k size turn
   leaves_back i turns k count size outer turn h e split =
-      let o : BackOutOfTurn (tree_of nodes) i turns k count size = backward_at i turns k (Some (Open count size)) h e in
+      let o : BackOutOfTurn (tree_of nodes) (i - 1) turns k count size = backward_from i turns k (Open count size) h e in
       let same = last_same outer o.outer turn o.turn (sym split ∙ o.turns_is) in
       let outer_is : o.outer ≡ outer = sym same.0 in
       let turn_is : o.turn ≡ turn = sym same.1 in
-      let b = bounded (tree_of nodes) (i + 1) turns k h in
+      let b = bounded (tree_of nodes) i turns k h in
+      let at = before i (Open count size) e in
       record {
-        below = omega (arith, o.below);
         room = omega (arith, ap length split, length-append outer (turn ∷ []), b.open_blocks, circuit.shallow);
-        again = λ more. moved (tree_of nodes) refl (ap (λ xs. xs ++ (o.turn - 1) ∷ []) outer_is ∙ ap (λ x. outer ++ (x - 1) ∷ []) turn_is) refl (o.again (omega arith));
+        again = λ more. moved (tree_of nodes) (omega (arith, at.i_is)) (ap (λ xs. xs ++ (o.turn - 1) ∷ []) outer_is ∙ ap (λ x. outer ++ (x - 1) ∷ []) turn_is) refl (o.again (omega arith));
         out = λ none. moved (tree_of nodes) refl outer_is refl (o.out (none_before o.turn turn turn_is none));
       }
 
@@ -135,9 +152,9 @@ module _ (nodes : List Node) (circuit : IsCircuit nodes) where
       let o : OutOfTurn (tree_of nodes) i turns k count size = forward_at i turns k (Some (Close count size)) h e in
       omega (arith, ap length o.turns_is, length-append o.outer (o.turn ∷ []))
 
-  pub some_turn_back : (i : ℕ) (turns : List ℕ) (k count size : ℕ) → IsPlace (tree_of nodes) (i + 1) turns k → slice_get nodes i ≡ Some (Open count size) → 0 < length turns
+  pub some_turn_back : (i : ℕ) (turns : List ℕ) (k count size : ℕ) → IsPlace (tree_of nodes) i turns k → node_before nodes i ≡ Some (Open count size) → 0 < length turns
   some_turn_back i turns k count size h e =
-      let o : BackOutOfTurn (tree_of nodes) i turns k count size = backward_at i turns k (Some (Open count size)) h e in
+      let o : BackOutOfTurn (tree_of nodes) (i - 1) turns k count size = backward_from i turns k (Open count size) h e in
       omega (arith, ap length o.turns_is, length-append o.outer (o.turn ∷ []))
 
   -- a place that goes into a block
@@ -153,31 +170,20 @@ module _ (nodes : List Node) (circuit : IsCircuit nodes) where
   pub record EntersBack (i : ℕ) (turns : List ℕ) (k count : ℕ) : Type 0 where
     pub room : length turns < 32
     pub some : 1 ≤ count
-    pub place : IsPlace (tree_of nodes) i (turns ++ (count - 1) ∷ []) k
+    pub place : IsPlace (tree_of nodes) (i - 1) (turns ++ (count - 1) ∷ []) k
 
-  pub enters_back : (i : ℕ) (turns : List ℕ) (k count size : ℕ) → IsPlace (tree_of nodes) (i + 1) turns k → slice_get nodes i ≡ Some (Close count size) → EntersBack i turns k count
+  pub enters_back : (i : ℕ) (turns : List ℕ) (k count size : ℕ) → IsPlace (tree_of nodes) i turns k → node_before nodes i ≡ Some (Close count size) → EntersBack i turns k count
   enters_back i turns k count size h e =
-      let o : BackIntoBlock (tree_of nodes) i turns k count = backward_at i turns k (Some (Close count size)) h e in
+      let o : BackIntoBlock (tree_of nodes) (i - 1) turns k count = backward_from i turns k (Close count size) h e in
       record { room = omega (arith, o.room, circuit.shallow); some = o.some; place = o.place }
 
-  -- the node before a place, at the index one less
-  pub record Before (i : ℕ) (node : Node) : Type 0 where
-    pub i_is : i ≡ (i - 1) + 1
-    pub node_is : slice_get nodes (i - 1) ≡ Some node
+  -- no block opens just before the end of one
+  no_open_behind : (i count size : ℕ) → slice_get nodes i ≡ Some (Close count size) → IsNoOpen (node_before nodes i)
+  no_open_behind zero count size h = tt
+  no_open_behind (suc i) count size h = no_open_before i (suc i) count size h (omega arith)
 
-  pub before : (i : ℕ) (node : Node) → node_before nodes i ≡ Some node → Before i node
-  before zero node h = cc
-  before (suc i) node h = let same : suc i - 1 ≡ i = omega arith in record { i_is = omega arith; node_is = ap (slice_get nodes) same ∙ h }
-
-  -- the node before an index after one
-  pub node_before-suc : (i j : ℕ) → j ≡ i + 1 → node_before nodes j ≡ slice_get nodes i
-  node_before-suc i zero h = absurd (omega arith)
-  node_before-suc i (suc j) h = let same : j ≡ i = omega arith in ap (slice_get nodes) same
-
-  -- no block opens just before a place before which one closes
-  pub no_open_back : (i count size : ℕ) → slice_get nodes i ≡ Some (Close count size) → IsNoOpen (node_before nodes i)
-  no_open_back zero count size h = tt
-  no_open_back (suc i) count size h = no_open_before i (suc i) count size h (omega arith)
+  pub no_open_back : (i count size : ℕ) → node_before nodes i ≡ Some (Close count size) → IsNoOpen (node_before nodes (i - 1))
+  no_open_back i count size h = no_open_behind (i - 1) count size (before i (Close count size) h).node_is
 
   pub over_step : (old new : Place) (k : ℕ) (step : TextStep) → IsAt nodes new k → slice_get nodes new.index ≡ Some (Do step) → GoesOver nodes old (record { index = new.index + 1; turns = new.turns }) step k
   over_step old new k step h e =
@@ -191,8 +197,7 @@ module _ (nodes : List Node) (circuit : IsCircuit nodes) where
 
   pub back_over_step : (old new : Place) (k : ℕ) (step : TextStep) → IsAt nodes new k → node_before nodes new.index ≡ Some (Do step) → GoesBackOver nodes old (record { index = new.index - 1; turns = new.turns }) step k
   back_over_step old new k step h e =
-      let b = before new.index (Do step) e in
-      let o : BackOverStep (tree_of nodes) (new.index - 1) new.turns.items k step = backward_at (new.index - 1) new.turns.items k (Some (Do step)) (moved (tree_of nodes) b.i_is refl refl h) b.node_is in
+      let o : BackOverStep (tree_of nodes) (new.index - 1) new.turns.items k step = backward_from new.index new.turns.items k (Do step) h e in
       record { m = o.m; k_is = o.k_is; step_is = o.step_is; place = o.place }
 
   first_or_before : (i : ℕ) → i ≤ length nodes → node_before nodes i ≡ None → i ≡ 0

@@ -60,6 +60,11 @@ abbrev pub node_before : List Node → ℕ → Option Node
 node_before nodes zero = None
 node_before nodes (suc i) = slice_get nodes i
 
+-- the node ahead of a place, where one goes back or forward
+abbrev pub node_ahead : Bool → List Node → ℕ → Option Node
+node_ahead true nodes index = node_before nodes index
+node_ahead false nodes index = slice_get nodes index
+
 -- a move forward, over the step after k others
 pub record GoesOver (nodes : List Node) (old new : Place) (step : TextStep) (k : ℕ) : Type 0 where
   pub step_is : slice_get (unrolled (tree_of nodes)) k ≡ Some step

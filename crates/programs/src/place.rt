@@ -1,5 +1,5 @@
-ghost use Rattle.std.specs.Prelude.{◌≡◌, ◌<◌, ◌+◌, ◌^◌, length, None, IfSome, slice_get};
-ghost use Rattle.programs.specs.Steps.{StandsIn, KeepsStep, MovesTo, IsNoOpen, IsNoClose, NextStep, PreviousStep, PreviousFault, PreviousFaults, is_step, is_fault_node, node_before};
+ghost use Rattle.std.specs.Prelude.{◌≡◌, ◌<◌, ◌+◌, ◌^◌, true, length, None, IfSome, slice_get};
+ghost use Rattle.programs.specs.Steps.{StandsIn, KeepsStep, MovesTo, IsNoOpen, IsNoClose, NextStep, PreviousStep, PreviousFault, PreviousFaults, is_step, is_fault_node, node_ahead, node_before};
 
 use crate::node::Node;
 use crate::nodes::Nodes;
@@ -78,31 +78,37 @@ fn enter_turns<A: Allocator + Copy>(nodes: &Nodes<A>, place: &mut Place)
     }
 }
 
-// Goes forward over the ends and starts of turns, which few places are at. Answers whether a step follows then.
+// Goes over the ends and starts of turns, which few places are at, forward or back. Answers whether a step is ahead then.
 #[inline(never)]
-fn go_past_turns<A: Allocator + Copy>(nodes: &Nodes<A>, place: &mut Place) -> bool
+fn go_past_turns<const BACK: bool, A: Allocator + Copy>(nodes: &Nodes<A>, place: &mut Place) -> bool
     requires { StandsIn nodes.now place.old }
     ensures moved { MovesTo nodes.now place.old place.new
-        (slice_get nodes.now place.new.index) result }
-    ensures few { length nodes.now < 2 ^ 64 }
+        (node_ahead BACK nodes.now place.new.index) result }
+    ensures few { result ≡ true → length nodes.now < 2 ^ 64 }
 {
-    leave_turns(nodes, place);
-    enter_turns(nodes, place);
-    nodes.is_step(place.index)
+    if BACK {
+        leave_turns_back(nodes, place);
+        enter_turns_back(nodes, place);
+    } else {
+        leave_turns(nodes, place);
+        enter_turns(nodes, place);
+    }
+    is_at_step::<BACK, A>(nodes, place.index)
 }
 
-// Goes forward to a place before a step, as most places are, or to the end. Answers whether a step follows then.
+// Goes to a place before a step, as most places are, or to the end; or back to one after a step, or to the start. Answers
+// whether a step is ahead then.
 #[inline(always)]
-fn go_to_step<A: Allocator + Copy>(nodes: &Nodes<A>, place: &mut Place) -> bool
+fn go_to_step<const BACK: bool, A: Allocator + Copy>(nodes: &Nodes<A>, place: &mut Place) -> bool
     requires { StandsIn nodes.now place.old }
     ensures moved { MovesTo nodes.now place.old place.new
-        (slice_get nodes.now place.new.index) result }
-    ensures few { length nodes.now < 2 ^ 64 }
+        (node_ahead BACK nodes.now place.new.index) result }
+    ensures few { result ≡ true → length nodes.now < 2 ^ 64 }
 {
-    if nodes.is_step(place.index) {
+    if is_at_step::<BACK, A>(nodes, place.index) {
         return true;
     }
-    go_past_turns(nodes, place)
+    go_past_turns::<BACK, A>(nodes, place)
 }
 
 // Answers the step after a place, and goes over it.
@@ -111,7 +117,7 @@ pub fn next<A: Allocator + Copy>(nodes: &Nodes<A>, place: &mut Place) -> Option<
     requires { StandsIn nodes.now place.old }
     ensures { NextStep nodes.now place.old place.new result }
 {
-    if !go_to_step(nodes, place) {
+    if !go_to_step::<false, A>(nodes, place) {
         return None;
     }
     let index = place.index;
@@ -150,38 +156,13 @@ fn enter_turns_back<A: Allocator + Copy>(nodes: &Nodes<A>, place: &mut Place)
     }
 }
 
-// Goes back over the starts and ends of turns, which few places are at. Answers whether a step is before then.
-#[inline(never)]
-fn go_back_past_turns<A: Allocator + Copy>(nodes: &Nodes<A>, place: &mut Place) -> bool
-    requires { StandsIn nodes.now place.old }
-    ensures { MovesTo nodes.now place.old place.new (node_before nodes.now place.new.index)
-        result }
-{
-    leave_turns_back(nodes, place);
-    enter_turns_back(nodes, place);
-    is_after_step(nodes, place.index)
-}
-
-// Goes back to a place after a step, as most places are, or to the start. Answers whether a step is before then.
-#[inline(always)]
-fn go_back_to_step<A: Allocator + Copy>(nodes: &Nodes<A>, place: &mut Place) -> bool
-    requires { StandsIn nodes.now place.old }
-    ensures { MovesTo nodes.now place.old place.new (node_before nodes.now place.new.index)
-        result }
-{
-    if is_after_step(nodes, place.index) {
-        return true;
-    }
-    go_back_past_turns(nodes, place)
-}
-
 // Answers the step before a place, and goes back over it.
 #[inline(always)]
 pub fn previous<A: Allocator + Copy>(nodes: &Nodes<A>, place: &mut Place) -> Option<TextStep>
     requires { StandsIn nodes.now place.old }
     ensures { PreviousStep nodes.now place.old place.new result }
 {
-    if !go_back_to_step(nodes, place) {
+    if !go_to_step::<true, A>(nodes, place) {
         return None;
     }
     // Read before the place is moved, so that what was asked of the node isn't loaded again.
@@ -196,7 +177,7 @@ pub fn previous_fault<A: Allocator + Copy>(nodes: &Nodes<A>, place: &mut Place) 
     requires { StandsIn nodes.now place.old }
     ensures { PreviousFault nodes.now place.old place.new result }
 {
-    if !go_back_to_step(nodes, place) {
+    if !go_to_step::<true, A>(nodes, place) {
         return None;
     }
     let entry = match nodes.fault(place.index - 1) {
@@ -217,7 +198,7 @@ pub fn previous_faults<A: Allocator + Copy>(
     ensures { PreviousFaults nodes.now place.old place.new most result }
 {
     // Most steps that aren't faults are answered here.
-    if !go_back_to_step(nodes, place) || !is_after_fault(nodes, place.index) {
+    if !go_to_step::<true, A>(nodes, place) || !is_after_fault(nodes, place.index) {
         return 0;
     }
     let index = place.index;
@@ -225,12 +206,17 @@ pub fn previous_faults<A: Allocator + Copy>(
     index - place.index
 }
 
-// Whether the node before a place is a step.
+// Whether the node ahead of a place is a step.
 #[inline(always)]
-fn is_after_step<A: Allocator + Copy>(nodes: &Nodes<A>, index: usize) -> bool
-    ensures { result ≡ is_step (node_before nodes.now index) }
+fn is_at_step<const BACK: bool, A: Allocator + Copy>(nodes: &Nodes<A>, index: usize) -> bool
+    ensures step { result ≡ is_step (node_ahead BACK nodes.now index) }
+    ensures few { result ≡ true → length nodes.now < 2 ^ 64 }
 {
-    index > 0 && nodes.is_step(index - 1)
+    if BACK {
+        index > 0 && nodes.is_step(index - 1)
+    } else {
+        nodes.is_step(index)
+    }
 }
 
 // Whether the node before a place is a fault.

@@ -1,14 +1,15 @@
 -- The sets of records where that of one is apart, and lists of targets by parity.
-use Rattle.std.proofs.Common.{◌≡◌, ℕ, zero, suc, ◌+◌, ◌<◌, ◌==◌, Bool, true, false, List, [], ◌∷◌, ◌++◌, length, get_or, set, take, drop, inl, inr, refl, ap, ap₂, subst, sym, ◌∙◌, arith}
+use Rattle.std.proofs.Common.{◌≡◌, ℕ, zero, suc, ◌+◌, ◌<◌, ◌==◌, Bool, false, List, [], ◌∷◌, ◌++◌, length, get_or, set, take, drop, inl, inr, refl, ap, ap₂, subst, sym, ◌∙◌, arith}
 use Rattle.std.specs.Prelude.{All, IfSome, Option, None, Some, replicate}
 use Rattle.std.proofs.lemmas.Bool.{cases_lt}
 use Rattle.std.proofs.lemmas.List.Elements.{All-append, All-drop, All-set}
 use Rattle.std.proofs.lemmas.List.{length-set, set-set, get_or-set_same, take-set-le, ext_get_or, drop_more}
 use Rattle.std.proofs.Math.Seq.{take-set-lt}
 use Rattle.pauli_word.specs.Parity.{exclusive_or}
-use Rattle.pauli_word.proofs.Parities.{exclusive_or_assoc}
+use Rattle.pauli_word.proofs.Parities.{exclusive_or_assoc, exclusive_or_comm, exclusive_or_left_comm, exclusive_or_middle, exclusive_or_self}
 use Rattle.step_model.specs.Targets.{is_listed}
-use Rattle.record_targets.specs.private.Apart.{with_apart, AreToggled}
+use Rattle.record_targets.specs.private.Apart.{with_apart, AreToggled, IsApart}
+use Rattle.record_targets.specs.private.RecordSets.{AreAsLong}
 use Rattle.record_targets.specs.ListingSets.{toggled_each}
 use Rattle.step_model.specs.TargetSets.{members, row_of_set}
 use Rattle.record_targets.proofs.LinkLemmas.{put_members, toggled_from_none}
@@ -42,9 +43,14 @@ same_lengths m n old new count of_old of_new all k d lt =
     let within : k < length old = omega (arith, lt, count) in
     of_new k d lt ∙ (sym (of_old k d within) ∙ all k d within)
 
-pub within_as_long : (apart : Option ℕ) (rows new_rows : List (List Bool)) → length new_rows ≡ length rows → IfSome apart (λ r. r < length rows) → IfSome apart (λ r. r < length new_rows)
-within_as_long None rows new_rows count h = tt
-within_as_long (Some r) rows new_rows count h = omega (arith, h, count)
+within_as_many : (apart : Option ℕ) (rows new_rows : List (List Bool)) → length new_rows ≡ length rows → IfSome apart (λ r. r < length rows) → IfSome apart (λ r. r < length new_rows)
+within_as_many None rows new_rows count h = tt
+within_as_many (Some r) rows new_rows count h = omega (arith, h, count)
+
+-- a set is apart from other rows that are as long
+pub apart_as_long : (m : ℕ) (rows new_rows : List (List Bool)) (apart : Option ℕ) (set : List ℕ) → AreAsLong rows new_rows → IsApart m rows apart set → IsApart m new_rows apart set
+apart_as_long m rows new_rows apart set as_long is =
+    record { long = as_long.long m is.long; within = within_as_many apart rows new_rows as_long.len is.within; below = is.below }
 
 -- the members of a row stand for it
 pub row_of_members : (m : ℕ) (row : List Bool) → length row ≡ m → row_of_set m (members row) ≡ row
@@ -85,33 +91,17 @@ listed_both [] ys t = refl
 listed_both (x ∷ xs) ys t = ap (exclusive_or (x == t)) (listed_both xs ys t) ∙ sym (exclusive_or_assoc (x == t) (is_listed xs t) (is_listed ys t))
 
 first_moves : (x into set targets : Bool) → exclusive_or (exclusive_or x into) (exclusive_or targets set) ≡ exclusive_or into (exclusive_or targets (exclusive_or x set))
-first_moves false into set targets = refl
-first_moves true false false false = refl
-first_moves true false false true = refl
-first_moves true false true false = refl
-first_moves true false true true = refl
-first_moves true true false false = refl
-first_moves true true false true = refl
-first_moves true true true false = refl
-first_moves true true true true = refl
+first_moves x into set targets =
+    ap (λ a. exclusive_or a (exclusive_or targets set)) (exclusive_or_comm x into)
+    ∙ (exclusive_or_assoc into x (exclusive_or targets set) ∙ ap (exclusive_or into) (exclusive_or_left_comm x targets set))
 
 second_moves : (x into set targets : Bool) → exclusive_or (exclusive_or x into) (exclusive_or targets set) ≡ exclusive_or into (exclusive_or (exclusive_or x targets) set)
-second_moves false into set targets = refl
-second_moves true false false false = refl
-second_moves true false false true = refl
-second_moves true false true false = refl
-second_moves true false true true = refl
-second_moves true true false false = refl
-second_moves true true false true = refl
-second_moves true true true false = refl
-second_moves true true true true = refl
+second_moves x into set targets =
+    first_moves x into set targets ∙ ap (exclusive_or into) (exclusive_or_left_comm targets x set ∙ sym (exclusive_or_assoc x targets set))
 
 both_go : (x into set targets : Bool) → exclusive_or into (exclusive_or targets set) ≡ exclusive_or into (exclusive_or (exclusive_or x targets) (exclusive_or x set))
-both_go false into set targets = refl
-both_go true into false false = refl
-both_go true into false true = refl
-both_go true into true false = refl
-both_go true into true true = refl
+both_go x into set targets =
+    ap (exclusive_or into) (sym (exclusive_or_middle x targets x set ∙ ap (λ a. exclusive_or a (exclusive_or targets set)) (exclusive_or_self x)))
 
 -- what is merged so far, with what is left of both
 abbrev pub merged : List ℕ → List ℕ → List ℕ → ℕ → Bool
@@ -140,17 +130,7 @@ pub merged_rest : (into targets set : List ℕ) (t : ℕ) → is_listed ((into +
 merged_rest into targets xs t =
     listed_both (into ++ xs) targets t
     ∙ (ap (λ b. exclusive_or b (is_listed targets t)) (listed_both into xs t)
-    ∙ turned (is_listed into t) (is_listed xs t) (is_listed targets t))
-  where
-    turned : (a b c : Bool) → exclusive_or (exclusive_or a b) c ≡ exclusive_or a (exclusive_or c b)
-    turned false false false = refl
-    turned false false true = refl
-    turned false true false = refl
-    turned false true true = refl
-    turned true false false = refl
-    turned true false true = refl
-    turned true true false = refl
-    turned true true true = refl
+    ∙ (exclusive_or_assoc (is_listed into t) (is_listed xs t) (is_listed targets t) ∙ ap (exclusive_or (is_listed into t)) (exclusive_or_comm (is_listed xs t) (is_listed targets t))))
 
 -- ---- all are below a bound
 pub below_pushed : (m x : ℕ) (into new : List ℕ) → new ≡ into ++ x ∷ [] → All (λ t. t < m) into → x < m → All (λ t. t < m) new

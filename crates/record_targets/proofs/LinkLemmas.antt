@@ -13,6 +13,7 @@ use Rattle.step_model.specs.Targets.{is_listed}
 use Rattle.record_targets.specs.declared.record_lists.Link.{Link}
 use Rattle.record_targets.specs.ListingSets.{toggled_each}
 use Rattle.record_targets.specs.private.Links.{no_link, chain, list_at, rows_at, LeadBack, AreLists, IsGrown, IsPutAt, put_before}
+use Rattle.record_targets.specs.private.RecordSets.{AreAsLong}
 use Rattle.step_model.specs.TargetSets.{members, row_of_set}
 use Rattle.record_targets.proofs.OrderLemmas.{map_agree_on}
 use Rattle.record_targets.proofs.SetLemmas.{length-toggled_each, toggled_each_at}
@@ -259,15 +260,19 @@ put_members row list none is blank =
     let within : k < length row = omega (arith, lt, length-row_of_set (length row) (members row)) in
     get_or-row_of_set (length row) (members row) k within ∙ listed_in_range (λ t. get_or row t false) k 0 (length row) (omega arith) (omega (arith, within))))
 
--- all rows are of the number of targets, so a number that is the length of each stays it
-pub rows_stay_long : (m n : ℕ) (links new_links : List Link) (places new_places : List ℕ) (rows : List (List Bool)) → rows_at m links places ≡ rows → length new_places ≡ length places → All (λ set. length set ≡ n) rows → All (λ set. length set ≡ n) (rows_at m new_links new_places)
-rows_stay_long m n links new_links places new_places rows is same all k d lt =
-    let row = λ (place : ℕ). row_of_set m (list_at links place) in
-    let new_row = λ (place : ℕ). row_of_set m (list_at new_links place) in
-    let within : k < length rows = omega (arith, lt, length-map new_places new_row, same, ap length is, length-map places row) in
-    ap length (get_or_default (rows_at m new_links new_places) k d [] lt)
-    ∙ (rows_of_length m new_links new_places (rows_at m new_links new_places) k refl lt
-    ∙ (sym (rows_of_length m links places rows k is within) ∙ all k [] within))
+-- all rows are of the number of targets, so they stay as long
+pub rows_as_long : (m : ℕ) (links new_links : List Link) (places new_places : List ℕ) (rows : List (List Bool)) → rows_at m links places ≡ rows → length new_places ≡ length places → AreAsLong rows (rows_at m new_links new_places)
+rows_as_long m links new_links places new_places rows is same =
+    let new_rows = rows_at m new_links new_places in
+    let count : length new_rows ≡ length rows = omega (arith, rows_counted m new_links new_places new_rows refl, same, rows_counted m links places rows is) in
+    record {
+      len = count;
+      long = λ n all k d lt.
+          let within : k < length rows = omega (arith, lt, count) in
+          ap length (get_or_default new_rows k d [] lt)
+          ∙ (rows_of_length m new_links new_places new_rows k refl lt
+          ∙ (sym (rows_of_length m links places rows k is within) ∙ all k [] within));
+    }
 
 -- ---- one list made empty
 pub lists_without : (m r : ℕ) (links : List Link) (places : List ℕ) → AreLists m links places → AreLists m links (set places r 0)

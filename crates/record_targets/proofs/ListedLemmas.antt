@@ -1,14 +1,15 @@
 -- The targets that list each record, put into one list of numbers.
 use Rattle.std.proofs.Common.{◌≡◌, ◌≢◌, ℕ, zero, suc, ◌+◌, ◌-◌, ◌<◌, ◌≤◌, ◌^◌, Bool, false, List, [], ◌∷◌, ◌++◌, length, drop, take, get_or, set, inl, inr, refl, ap, ap₂, subst, sym, ◌∙◌, arith, length-set, get_or-set_same, get_or-set_other}
-use Rattle.std.specs.Prelude.{All, cond, replicate, slice_range}
+use Rattle.std.specs.Prelude.{cond, map, replicate, slice_range}
 use Rattle.std.specs.List.{concat, range_with_len}
 use Rattle.std.proofs.lemmas.Bool.{cases_eq, cases_lt, eq-eqb, ne_eqb}
-use Rattle.std.proofs.lemmas.List.{drop_all, drop_more, drop-set-lt, drop-set-add, get_or-replicate, get_or_read, length-drop, length-replicate, take-set-le, take_more_set}
-use Rattle.std.proofs.lemmas.List.Elements.{All-drop, All-take}
+use Rattle.std.proofs.lemmas.List.{drop_all, drop_more, drop-set-lt, drop-set-add, get_or-map, get_or-replicate, length-drop, length-map, length-replicate, take-set-le, take_more_set}
 use Rattle.std.proofs.lemmas.List.FromFn.{fill_by_all, length-map-range_with_len, get_or-map-range_with_len}
 use Rattle.step_model.specs.Listing.{Listing}
 use Rattle.step_model.specs.Targets.{is_listed, target_at, targets_of}
-use Rattle.record_targets.specs.private.ListedTargets.{AreParts, ArePut, HasRoom, left_from, listing_below, marked_rows, parts_at, start_of, times_in}
+use Rattle.flat_lists.specs.Cuts.{AreEnds, cut}
+use Rattle.flat_lists.proofs.CutLemmas.{get_or-cut, length-cut, rising_ends}
+use Rattle.record_targets.specs.private.ListedTargets.{ArePut, HasRoom, left_from, listing_below, marked_rows, start_of, times_in}
 use Rattle.record_targets.specs.private.RecordSets.{toggled_in}
 use Rattle.step_model.specs.TargetSets.{row_of_set, toggled}
 use Rattle.record_targets.proofs.OrderLemmas.{listed_pushed}
@@ -102,7 +103,7 @@ module _ (whole left marks numbers : List ℕ) (rec t : ℕ) (room : HasRoom who
   before_next = omega (arith, room.ahead rec there, times_same rec left)
 
   pub mark_within : mark < length numbers
-  mark_within = omega (arith, before_next, start_rises whole (suc rec) (length marks) (omega (arith, there)), room.within)
+  mark_within = omega (arith, before_next, start_rises whole (suc rec) (length marks) (omega (arith, there)), room.full)
 
   pub room_left : HasRoom whole left moved (set numbers mark t)
   room_left =
@@ -115,7 +116,7 @@ module _ (whole left marks numbers : List ℕ) (rec t : ℕ) (room : HasRoom who
           | inl e ↦ subst (λ k. get_or moved k 0 + times_in k left ≡ start_of whole (suc k)) (sym e) (omega (arith, same, room.ahead rec there, times_same rec left))
           | inr ne ↦ omega (arith, other r ne, room.ahead r (omega (arith, lt, size)), times_other r rec left (λ e. ne (sym e)))
         ];
-        within = omega (arith, ap (start_of whole) size, length-set numbers mark t, room.within);
+        full = ap (start_of whole) size ∙ (room.full ∙ sym (length-set numbers mark t));
         few = omega (arith, length-set numbers mark t, room.few);
       }
 
@@ -184,7 +185,7 @@ none_put program marks numbers count starts blank few =
           record {
             low = λ r lt. omega (arith, starts r lt);
             ahead = λ r lt. omega (arith, starts r lt);
-            within = omega (arith, filled);
+            full = sym filled;
             few = few;
           };
       rows =
@@ -217,76 +218,46 @@ none_put program marks numbers count starts blank few =
     zeros : (k d : ℕ) → k < start_of whole (length marks) → get_or (replicate (start_of whole (length marks)) 0) k d < m
     zeros k d lt = omega (arith, get_or-replicate (start_of whole (length marks)) k 0 d lt, some_target (targets_of program) (length marks) (omega (arith, lt)))
 
--- the marks are then where the parts end
+-- the marks are then where the lists end
 module _ (program : Listing) (marks numbers : List ℕ) (put : ArePut program (length (targets_of program)) marks numbers) where
   ends : (r : ℕ) → r < length marks → get_or marks r 0 ≡ start_of (left_from program 0) (suc r)
   ends r lt = omega (arith, put.room.ahead r lt, ap (times_in r) (left_from-all program))
 
-  starts : (r : ℕ) → r < length marks → get_or (0 ∷ marks) r 0 ≡ start_of (left_from program 0) r
-  starts zero lt = refl
-  starts (suc r) lt = ends r (omega (arith, lt))
+  starts : (r : ℕ) → r ≤ length marks → get_or (0 ∷ marks) r 0 ≡ start_of (left_from program 0) r
+  starts zero le = refl
+  starts (suc r) le = ends r (omega (arith, le))
 
-  pub all_parts : AreParts (length (targets_of program)) marks numbers
-  all_parts =
-      record {
-        ordered = λ r lt. omega (arith, starts r lt, put.room.low r lt);
-        within = λ r lt. omega (arith, ends r lt, start_rises (left_from program 0) (suc r) (length marks) (omega (arith, lt)), put.room.within);
-        below = put.below;
-      }
+  pub are_ends : AreEnds 0 marks (length numbers)
+  are_ends =
+      rising_ends 0 marks (length numbers) (λ r lt. omega (arith, starts r (omega (arith, lt)), put.room.low r lt)) (starts (length marks) (omega arith) ∙ put.room.full)
 
-  pub all_rows : parts_at (length (targets_of program)) marks numbers ≡ listing_below program (length (targets_of program))
+  pub all_rows : map (row_of_set (length (targets_of program))) (cut 0 marks numbers) ≡ listing_below program (length (targets_of program))
   all_rows =
-      sym (fill_by_all _ (marked_rows m whole marks numbers) (length marks) [] (length-map-range_with_len row 0 (length marks))
+      fill_by_all row (map (row_of_set m) lists) (length marks) [] (length-map lists (row_of_set m) ∙ length-cut 0 marks numbers)
       (λ r lt.
-      get_or-map-range_with_len row 0 (length marks) r r [] lt (omega arith)
-      ∙ ap (λ k. row_of_set m (slice_range numbers k (get_or marks r 0))) (sym (starts r lt))))
+      get_or-map (row_of_set m) lists r [] [] (omega (arith, lt, length-cut 0 marks numbers))
+      ∙ ap (row_of_set m) (get_or-cut 0 marks numbers r lt ∙ ap (λ k. slice_range numbers k (get_or marks r 0)) (starts r (omega (arith, lt)))))
       ∙ put.rows
     where
       m : ℕ
       m = length (targets_of program)
 
-      whole : List ℕ
-      whole = left_from program 0
+      lists : List (List ℕ)
+      lists = cut 0 marks numbers
 
       row : ℕ → List Bool
-      row r = row_of_set m (slice_range numbers (start_of whole r) (get_or marks r 0))
+      row r = row_of_set m (slice_range numbers (start_of (left_from program 0) r) (get_or marks r 0))
 
--- ---- one part
-pub parts_counted : (m : ℕ) (ends numbers : List ℕ) (rows : List (List Bool)) → parts_at m ends numbers ≡ rows → length ends ≡ length rows
-parts_counted m ends numbers rows is =
-    sym (length-map-range_with_len (λ r. row_of_set m (slice_range numbers (get_or (0 ∷ ends) r 0) (get_or ends r 0))) 0 (length ends)) ∙ ap length is
+-- ---- one list
+module _ (m rec : ℕ) (lists : List (List ℕ)) (rows : List (List Bool)) (is : map (row_of_set m) lists ≡ rows) (low : rec < length rows) where
+  pub there : rec < length lists
+  there = omega (arith, low, ap length is, length-map lists (row_of_set m))
 
--- what is known of a part, once its start and its end are read
-pub record IsPart (numbers : List ℕ) (row : List Bool) (start end : ℕ) : Type 0 where
-  pub ordered : start ≤ end
-  pub within : end ≤ length numbers
-  pub is_row : row_of_set (length row) (slice_range numbers start end) ≡ row
-  pub below : All (λ t. t < length row) (slice_range numbers start end)
+  row_is : row_of_set m (get_or lists rec []) ≡ get_or rows rec []
+  row_is = sym (get_or-map (row_of_set m) lists rec [] [] there) ∙ ap (λ (l : List (List Bool)). get_or l rec []) is
 
-pub part_read : (m rec start end : ℕ) (ends numbers : List ℕ) (rows : List (List Bool)) → AreParts m ends numbers → parts_at m ends numbers ≡ rows → rec < length rows
-    → start ≡ get_or (0 ∷ ends) rec 0 → end ≡ get_or ends rec end → IsPart numbers (get_or rows rec []) start end
-part_read m rec start end ends numbers rows parts is low start_is end_is =
-    record {
-      ordered = omega (arith, parts.ordered rec there, start_is, end_at);
-      within = omega (arith, parts.within rec there, end_at);
-      is_row = ap (λ n. row_of_set n part) long ∙ row_is;
-      below = subst (λ n. All (λ t. t < n) part) (sym long) (All-take (λ t. t < m) (end - start) (drop start numbers) (All-drop (λ t. t < m) start numbers parts.below));
-    }
-  where
-    there : rec < length ends
-    there = omega (arith, low, parts_counted m ends numbers rows is)
+  pub long : m ≡ length (get_or rows rec [])
+  long = sym (length-row_of_set m (get_or lists rec [])) ∙ ap length row_is
 
-    end_at : end ≡ get_or ends rec 0
-    end_at = get_or_read ends rec end there end_is 0
-
-    part : List ℕ
-    part = slice_range numbers start end
-
-    row_is : row_of_set m part ≡ get_or rows rec []
-    row_is =
-        ap₂ (λ i j. row_of_set m (slice_range numbers i j)) start_is end_at
-        ∙ (sym (get_or-map-range_with_len (λ r. row_of_set m (slice_range numbers (get_or (0 ∷ ends) r 0) (get_or ends r 0))) 0 (length ends) rec rec [] there (omega arith))
-        ∙ ap (λ (l : List (List Bool)). get_or l rec []) is)
-
-    long : length (get_or rows rec []) ≡ m
-    long = sym (ap length row_is) ∙ length-row_of_set m part
+  pub set_is : row_of_set (length (get_or rows rec [])) (get_or lists rec []) ≡ get_or rows rec []
+  set_is = ap (λ n. row_of_set n (get_or lists rec [])) (sym long) ∙ row_is

@@ -1,10 +1,11 @@
 -- Pairs of equal targets taken out of a sorted list.
-use Rattle.std.proofs.Common.{◌≡◌, ◌≢◌, ℕ, ◌+◌, ◌-◌, ◌<◌, ◌≤◌, ◌==◌, Bool, true, false, List, length, take, get_or, set, inl, inr, refl, ap, sym, ◌∙◌, arith, length-set, get_or-set_same, get_or-set_other}
+use Rattle.std.proofs.Common.{◌≡◌, ◌≢◌, ℕ, ◌+◌, ◌-◌, ◌<◌, ◌≤◌, ◌==◌, Bool, List, length, take, get_or, set, inl, inr, refl, ap, sym, ◌∙◌, arith, length-set, get_or-set_same, get_or-set_other}
 use Rattle.std.specs.Prelude.{All}
 use Rattle.std.specs.List.Sorted.{IsNonDecreasing}
 use Rattle.std.proofs.lemmas.Bool.{cases_eq}
 use Rattle.std.proofs.lemmas.List.{take_more, take_more_set}
 use Rattle.pauli_word.specs.Parity.{exclusive_or}
+use Rattle.pauli_word.proofs.Parities.{exclusive_or_assoc, exclusive_or_self}
 use Rattle.step_model.specs.Targets.{is_listed}
 use Rattle.record_targets.proofs.OrderLemmas.{listed_pushed}
 
@@ -55,9 +56,7 @@ module _ (old new : List ℕ) (i kept : ℕ) (h : IsCancelled old new i kept) (t
       }
     where
       twice : (a b : Bool) → exclusive_or a (exclusive_or a b) ≡ b
-      twice false b = refl
-      twice true false = refl
-      twice true true = refl
+      twice a b = sym (exclusive_or_assoc a a b) ∙ ap (λ x. exclusive_or x b) (exclusive_or_self a)
 
   -- else the next one stays
   pub next_stays : IsNonDecreasing old → (0 < kept → get_or new (kept - 1) 0 ≢ get_or old i 0) → IsCancelled old (set new kept (get_or old i 0)) (i + 1) (kept + 1)

@@ -1,48 +1,34 @@
 //! For each record the targets that list it, as the program has them.
-ghost use Rattle.std.specs.Prelude.{◌≡◌, ◌<◌, ◌+◌, ◌^◌, ℕ, List, [], ◌∷◌, length, replicate, slice_index_or, All, IfOk, OnOk};
+ghost use Rattle.std.specs.Prelude.{◌≡◌, ◌<◌, ◌+◌, ◌^◌, ℕ, List, [], length, replicate, slice_index_or, All, IfOk, OnOk};
 ghost use Rattle.step_model.specs.Targets.{targets_of};
 ghost use Rattle.record_targets.specs.private.ListedTargets.{left_from, start_of, times_in, AreCounts, ArePut, AreStarts};
 ghost use Rattle.record_targets.specs.ListingSets.{listing_sets};
 ghost use Rattle.step_model.specs.TargetSets.{row_of_set};
 
 use crate::targets::target_count;
+use flat_lists::FlatLists;
 use programs::Program;
 use std::alloc::{AllocError, Allocator};
 use std::marker::Model;
 
 /// For each record the set of the targets that list it an odd number of times.
 ///
-/// The targets of all records stand in one list, those of a record one after another and ascending, each as often as it
-/// lists the record.
+/// Those of a record ascend, each as often as it lists the record.
+#[derive(Drop)]
 pub(crate) struct ListedTargets<A: Allocator + Copy> {
     targets: usize,
-    // Where each record's targets end. Those of the next one follow.
-    ends: Vec<u32, A>,
-    numbers: Vec<u32, A>,
+    lists: FlatLists<u32, A>,
 }
 
 impl<A: Allocator + Copy> Model for ListedTargets<A> {
-    ghost use Rattle.std.specs.Prelude.{List, Bool};
-    ghost use Rattle.record_targets.specs.private.ListedTargets.{parts_at, AreParts};
+    ghost use Rattle.std.specs.Prelude.{◌<◌, All, Bool, List, map};
+    ghost use Rattle.step_model.specs.TargetSets.{row_of_set};
 
     ghost Value = { List (List Bool) };
 
-    ghost view = { λ listed. parts_at listed.targets listed.ends.items listed.numbers.items };
+    ghost view = { λ listed. map (row_of_set listed.targets) listed.lists };
 
-    ghost invariant = { λ listed. AreParts listed.targets listed.ends.items listed.numbers.items };
-}
-
-// Written out, so that it is a call in the proof of each function that owns one.
-impl<A: Allocator + Copy> Drop for ListedTargets<A> {
-    fn drop(self) {
-        let ListedTargets {
-            targets: _,
-            ends,
-            numbers,
-        } = self;
-        drop(ends);
-        drop(numbers);
-    }
+    ghost invariant = { λ listed. All (All (λ t. t < listed.targets)) listed.lists };
 }
 
 impl<A: Allocator + Copy> ListedTargets<A> {
@@ -57,8 +43,7 @@ impl<A: Allocator + Copy> ListedTargets<A> {
         put_all(&mut marks, &mut numbers, program);
         Ok(ListedTargets {
             targets: target_count(program),
-            ends: marks,
-            numbers,
+            lists: FlatLists::cut(numbers, marks),
         })
     }
 
@@ -67,7 +52,7 @@ impl<A: Allocator + Copy> ListedTargets<A> {
     pub(crate) fn len(&self) -> usize
         ensures { result ≡ length self.now }
     {
-        self.ends.len()
+        self.lists.len()
     }
 
     /// The targets that list a record.
@@ -78,19 +63,8 @@ impl<A: Allocator + Copy> ListedTargets<A> {
             ≡ slice_index_or self.now rec [] }
         ensures below { All (λ t. t < length (slice_index_or self.now rec [])) result.now }
     {
-        let start = start_of(&self.ends, rec);
-        let end = self.ends[rec] as usize;
-        &self.numbers[start..end]
+        self.lists.get(rec)
     }
-}
-
-// Where the targets of a record start: where those of the one before it end, and the first ones at 0.
-#[inline(always)]
-fn start_of(ends: &[u32], rec: usize) -> usize
-    requires { rec < length ends.now }
-    ensures { result ≡ slice_index_or (0 ∷ ends.now) rec 0 }
-{
-    if rec == 0 { 0 } else { ends[rec - 1] as usize }
 }
 
 // Counts how often each record is listed.

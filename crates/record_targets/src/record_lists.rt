@@ -1,8 +1,8 @@
 //! For each record the targets that feedback changes, as linked lists: most records have none or few.
 ghost use Rattle.std.specs.Prelude.{◌≡◌, ◌<◌, ◌≤◌, ◌+◌, ◌-◌, ◌∷◌, ℕ, [], true, false, length, replicate, slice_index_or, slice_set, All, IfOk, OnErr, OnOk};
-ghost use Rattle.record_targets.specs.ListingSets.{toggled_each};
+ghost use Rattle.record_targets.specs.private.Apart.{toggled_at};
 ghost use Rattle.record_targets.specs.private.Links.{list_at, rows_at, LeadBack, AreLists, IsGrown, IsPutAt};
-ghost use Rattle.record_targets.specs.private.RecordSets.{opened_sets};
+ghost use Rattle.record_targets.specs.private.RecordSets.{opened_sets, AreAsLong};
 ghost use Rattle.step_model.specs.TargetSets.{members};
 
 use crate::ascending::make_ascend;
@@ -138,16 +138,10 @@ impl<'s, A: Allocator + Copy> RecordLists<'s, A> {
     pub(crate) fn toggle_each(&mut self, rec: usize, targets: &[u32]) -> Result<(), AllocError>
         requires rec { rec < length self.old }
         requires targets { All (λ t. t < length (slice_index_or self.old rec [])) targets.now }
-        ensures ok { OnOk result
-            (self.new
-            ≡ slice_set self.old rec
-            (toggled_each targets.now (slice_index_or self.old rec []))) }
+        ensures ok { OnOk result (self.new ≡ toggled_at rec targets.now self.old) }
 
         // After an error too.
-        ensures len { length self.new ≡ length self.old }
-        ensures long { (n : ℕ)
-            → All (λ set. length set ≡ n) self.old
-            → All (λ set. length set ≡ n) self.new }
+        ensures as_long { AreAsLong self.old self.new }
     {
         self.shorten()?;
         self.put(rec, targets)
@@ -159,9 +153,7 @@ impl<'s, A: Allocator + Copy> RecordLists<'s, A> {
         ensures set { (m : ℕ)
             → All (λ set. length set ≡ m) self.old
             → self.new ≡ slice_set self.old rec (replicate m false) }
-        ensures long { (n : ℕ)
-            → All (λ set. length set ≡ n) self.old
-            → All (λ set. length set ≡ n) self.new }
+        ensures as_long { AreAsLong self.old self.new }
     {
         self.places[rec] = 0;
     }
@@ -197,14 +189,8 @@ impl<'s, A: Allocator + Copy> RecordLists<'s, A> {
     fn put(&mut self, rec: usize, targets: &[u32]) -> Result<(), AllocError>
         requires rec { rec < length self.old }
         requires targets { All (λ t. t < length (slice_index_or self.old rec [])) targets.now }
-        ensures ok { OnOk result
-            (self.new
-            ≡ slice_set self.old rec
-            (toggled_each targets.now (slice_index_or self.old rec []))) }
-        ensures len { length self.new ≡ length self.old }
-        ensures long { (n : ℕ)
-            → All (λ set. length set ≡ n) self.old
-            → All (λ set. length set ≡ n) self.new }
+        ensures ok { OnOk result (self.new ≡ toggled_at rec targets.now self.old) }
+        ensures as_long { AreAsLong self.old self.new }
     {
         let first = put_each(&mut self.links, self.places[rec], targets)?;
         self.places[rec] = first;

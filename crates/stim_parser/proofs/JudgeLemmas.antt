@@ -1,10 +1,12 @@
 -- The questions of a line in their order: where those before don't apply, the next is asked.
-use Rattle.std.proofs.Common.{◌≡◌, ℕ, Bool, true, false, not, ◌||◌, ◌<◌, List, [], ◌∷◌, ◌++◌, cond, find, length, Option, None, Some, refl, ap, ap₂, subst, sym, ◌∙◌, arith}
+use Rattle.std.proofs.Common.{◌≡◌, ◌≢◌, ℕ, Bool, true, false, not, ◌||◌, ◌<◌, List, [], ◌∷◌, ◌++◌, cond, find, length, Option, None, Some, refl, ap, ap₂, subst, sym, ◌∙◌, arith}
 use Rattle.std.specs.Prelude.{option_map, unwrap_or, is_none}
 use Rattle.std.specs.List.{list_all}
 use Rattle.std.specs.Option.{option_or}
 use Rattle.std.proofs.lemmas.Bool.{false≢true, lt-ltb, ne_eqb, or_right}
 use Rattle.step_model.specs.declared.fault.Cause.{Cause}
+use Rattle.stim_lexer.specs.declared.line.Braces.{Braces}
+use Rattle.stim_lexer.specs.declared.line.Braces.TheVariants.{ClosingAlone}
 use Rattle.stim_lexer.specs.Cut.{Cut}
 use Rattle.stim_lexer.specs.Texts.{Refuses}
 use Rattle.stim_parser.specs.declared.forms.ArgumentForm.{ArgumentForm}
@@ -12,7 +14,7 @@ use Rattle.stim_parser.specs.declared.forms.ArgumentForm.TheVariants.{NoArgument
 use Rattle.stim_parser.specs.declared.table.Causes.{Causes}
 use Rattle.stim_parser.specs.declared.table.Keyword.{Keyword}
 use Rattle.stim_parser.specs.Arguments.{arguments_in}
-use Rattle.stim_parser.specs.Judging.{Table, accepted, first_of, judged, misplaces_brace, read_targets, refusal_of, refusals_of_name, unless_refused}
+use Rattle.stim_parser.specs.Judging.{Table, accepted, first_of, judged, misplaces_brace, read_targets, reading_of, refusal_of, refusals_of_name, said_by, unless_refused}
 use Rattle.stim_parser.specs.private.Questions.{has_number_beyond, has_wrong_target, refusals_of_amounts, refusals_of_arguments, refusals_of_block, refusals_of_keyword}
 use Rattle.stim_parser.specs.Limits.{has_argument_beyond, has_wrong_arguments, has_wrong_probability, is_argument, is_wrong_count, takes_probability}
 use Rattle.stim_parser.specs.Probabilities.{AreProbabilities}
@@ -171,14 +173,21 @@ amounts-targets table depth keyword cut found e f =
 
 -- ---- a line
 
-pub judged-refused : {O T F : Type 0} (table : Table O T F) (depth number : ℕ) (cut : Cut) (c : Cause) → refusal_of table depth cut ≡ Some c → judged table depth number cut ≡ Refuses c
-unfolding judged
-judged-refused table depth number cut c e =
-    ap (λ (refusal : Option Cause). unless_refused refusal (accepted table number (table.keyword_named cut.name) cut)) e
+line_judged : {O T F : Type 0} (table : Table O T F) (depth number : ℕ) (cut : Cut) (braces : Braces) → braces ≢ ClosingAlone → said_by table braces depth number cut ≡ judged table depth number cut
+line_judged table depth number cut ClosingAlone other = absurd (other refl)
+line_judged table depth number cut braces other = refl
 
-pub judged-accepted : {O T F : Type 0} (table : Table O T F) (depth number : ℕ) (cut : Cut) (keyword : Keyword O) → table.keyword_named cut.name ≡ Some keyword → refusal_of table depth cut ≡ None
-    → judged table depth number cut ≡ accepted table number (Some keyword) cut
-unfolding judged
-judged-accepted {O} table depth number cut keyword n e =
-    ap (λ (refusal : Option Cause). unless_refused refusal (accepted table number (table.keyword_named cut.name) cut)) e
-    ∙ ap (λ (named : Option (Keyword O)). accepted table number named cut) n
+pub reading-refused : {O T F : Type 0} (table : Table O T F) (depth number : ℕ) (cut : Cut) (c : Cause) → cut.braces ≢ ClosingAlone → refusal_of table depth cut ≡ Some c
+    → reading_of table depth number cut ≡ Refuses c
+unfolding reading_of judged
+reading-refused table depth number cut c other e =
+    line_judged table depth number cut cut.braces other
+    ∙ ap (λ (refusal : Option Cause). unless_refused refusal (accepted table number (table.keyword_named cut.name) cut)) e
+
+pub reading-accepted : {O T F : Type 0} (table : Table O T F) (depth number : ℕ) (cut : Cut) (keyword : Keyword O) → cut.braces ≢ ClosingAlone → table.keyword_named cut.name ≡ Some keyword
+    → refusal_of table depth cut ≡ None → reading_of table depth number cut ≡ accepted table number (Some keyword) cut
+unfolding reading_of judged
+reading-accepted {O} table depth number cut keyword other n e =
+    line_judged table depth number cut cut.braces other
+    ∙ (ap (λ (refusal : Option Cause). unless_refused refusal (accepted table number (table.keyword_named cut.name) cut)) e
+    ∙ ap (λ (named : Option (Keyword O)). accepted table number named cut) n)

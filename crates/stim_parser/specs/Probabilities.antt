@@ -60,10 +60,14 @@ marked_in begun = record { items = begun.text.items; marks = begun.marks }
 
 -- ---- a line
 
--- what stood between the last parentheses is what an accepted line with a probability has there
+-- what stood between the last parentheses is this text, where a probability is asked of it
+abbrev pub RemembersText : ArgumentForm → List ℕ → Parentheses → Type 0
+RemembersText form text last = takes_probability form ≡ true → last.text ≡ text
+
+-- it is what an accepted line with a probability has there
 abbrev pub Remembers : {O T F : Type 0} → Table O T F → Said O → Parentheses → Type 0
 Remembers table (said.Accepts operation arguments) last =
-    takes_probability (table.argument_form (keyword.Does operation)) ≡ true → last.text ≡ arguments.now
+    RemembersText (table.argument_form (keyword.Does operation)) arguments.now last
 Remembers table said last = ⊤
 
 abbrev pub TakesNothing : {O : Type 0} → Said O → Type 0

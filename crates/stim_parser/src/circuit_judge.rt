@@ -1,18 +1,19 @@
-ghost use Rattle.std.specs.Prelude.{◌≡◌, ◌&&◌, ◌||◌, not, None, Some, false, IfOk, MatchBool};
+ghost use Rattle.std.specs.Prelude.{◌≡◌, ◌&&◌, ◌||◌, not};
 ghost use Rattle.stim_lexer.specs.Bytes.{after_blanks, is_empty};
 ghost use Rattle.stim_parser.specs.Circuits as circuits;
-ghost use Rattle.stim_parser.specs.Judging.{first_of};
-ghost use Rattle.stim_parser.specs.Limits.{has_target_beyond, has_wrong_count};
-ghost use Rattle.stim_parser.specs.Verdicts.{circuit_table, line_targets, refusals_of_targets, takes_none, turns_of};
+ghost use Rattle.stim_parser.specs.Instructions.{gate_targets};
+ghost use Rattle.stim_parser.specs.Limits.{has_wrong_count};
+ghost use Rattle.stim_parser.specs.Verdicts.{circuit_table, takes_none};
 
-use crate::forms::{ArgumentForm, TargetForm, argument_form, target_form};
+use crate::forms::{ArgumentForm, TargetForm};
 use crate::last::Last;
 use crate::names::is_left_out;
 use crate::numbers::GREATEST_COORDINATE;
 use crate::operation::Operation;
 use crate::table::{Causes, Judge, Keyword};
 use crate::target::{Target, read_targets};
-use crate::target_checks::{are_of_form, has_same_qubit, has_target_beyond, has_wrong_count};
+use crate::target_checks::{are_of_form, has_same_qubit, has_wrong_count, is_target_beyond};
+use gate_table::Gate;
 use std::alloc::{AllocError, Allocator};
 use step_model::Cause;
 use stim_lexer::after_blanks;
@@ -21,24 +22,6 @@ fn takes_none(form: TargetForm) -> bool
     ensures { result ≡ takes_none form }
 {
     matches!(form, TargetForm::NoTargets)
-}
-
-/// Puts the targets of a line into `targets`, in place of what it held. Answers whether each can be read. For a form without
-/// targets none is read.
-fn read_line_targets<A: Allocator + Copy>(
-    targets: &mut Vec<Target, A>,
-    form: TargetForm,
-    text: &[u8],
-) -> Result<bool, AllocError>
-    ensures { IfOk result (λ all. MatchBool all
-        (line_targets form text.now ≡ Some targets.new.items)
-        (line_targets form text.now ≡ None)) }
-{
-    if takes_none(form) {
-        targets.clear();
-        return Ok(true);
-    }
-    read_targets(targets, text)
 }
 
 /// Whether there are targets where none is taken, or another number of them than is taken.
@@ -50,18 +33,21 @@ fn has_wrong_number(form: TargetForm, text: &[u8], targets: &[Target]) -> bool
     (takes_none(form) && !after_blanks(text).is_empty()) || has_wrong_count(form, targets)
 }
 
-/// The refusal of a wrong number of targets, or of a qubit that is named twice.
-fn refusal_of_targets(form: TargetForm, text: &[u8], targets: &[Target]) -> Option<Cause>
-    requires { has_target_beyond form targets.now ≡ false }
-    ensures { result ≡ first_of (refusals_of_targets form text.now targets.now) }
+/// The targets that a gate takes.
+fn gate_targets(gate: Gate) -> TargetForm
+    ensures { result ≡ gate_targets gate }
 {
-    if has_wrong_number(form, text, targets) {
-        return Some(Cause::Count);
+    match gate {
+        Gate::CX | Gate::CY => TargetForm::PairsRecordFirst,
+        Gate::CZ => TargetForm::PairsOneRecord,
+        _ => {
+            if gate.arity() == 1 {
+                TargetForm::Qubits
+            } else {
+                TargetForm::QubitPairs
+            }
+        }
     }
-    if has_same_qubit(form, targets) {
-        return Some(Cause::SameQubit);
-    }
-    None
 }
 
 /// The judge of a circuit's lines.
@@ -85,11 +71,25 @@ impl Judge<Operation, Target, TargetForm> for CircuitJudge {
         }
     }
 
-    #[inline(always)]
     fn argument_form(keyword: Keyword<Operation>) -> ArgumentForm
         ensures { result ≡ circuit_table.argument_form keyword }
     {
-        argument_form(keyword)
+        let Keyword::Does(operation) = keyword else {
+            return ArgumentForm::NoArguments;
+        };
+        match operation {
+            Operation::Measurement(_)
+            | Operation::MeasurementReset(_)
+            | Operation::ProductMeasurement => ArgumentForm::ProbabilityAtWill,
+            Operation::PauliError(_) | Operation::CorrelatedError => ArgumentForm::OneProbability,
+            Operation::DetectorDeclaration | Operation::CoordinateShift =>
+                ArgumentForm::WholeNumbers,
+            Operation::ObservableInclude => ArgumentForm::OneNumber,
+            Operation::QubitCoordinates => ArgumentForm::Decimals,
+            Operation::Applies(_) | Operation::QubitReset(_) | Operation::Tick => {
+                ArgumentForm::NoArguments
+            }
+        }
     }
 
     #[inline(always)]
@@ -97,20 +97,36 @@ impl Judge<Operation, Target, TargetForm> for CircuitJudge {
         GREATEST_COORDINATE
     }
 
-    #[inline(always)]
     fn target_form(keyword: Keyword<Operation>) -> TargetForm
         ensures { result ≡ circuit_table.target_form keyword }
     {
-        target_form(keyword)
+        let Keyword::Does(operation) = keyword else {
+            return TargetForm::Turns;
+        };
+        match operation {
+            Operation::Applies(gate) => gate_targets(gate),
+            Operation::Measurement(_) | Operation::MeasurementReset(_) => {
+                TargetForm::QubitsInvertedAtWill
+            }
+            Operation::ProductMeasurement => TargetForm::Products,
+            Operation::QubitReset(_) | Operation::PauliError(_) | Operation::QubitCoordinates =>
+                TargetForm::Qubits,
+            Operation::CorrelatedError => TargetForm::Paulis,
+            Operation::DetectorDeclaration | Operation::ObservableInclude => TargetForm::Records,
+            Operation::Tick | Operation::CoordinateShift => TargetForm::NoTargets,
+        }
     }
 
-    #[inline(always)]
     fn read_targets<A: Allocator + Copy>(
         targets: &mut Vec<Target, A>,
         form: TargetForm,
         text: &[u8],
     ) -> Result<bool, AllocError> {
-        read_line_targets(targets, form, text)
+        if takes_none(form) {
+            targets.clear();
+            return Ok(true);
+        }
+        read_targets(targets, text)
     }
 
     #[inline(always)]
@@ -118,14 +134,19 @@ impl Judge<Operation, Target, TargetForm> for CircuitJudge {
         are_of_form(form, targets)
     }
 
-    #[inline(always)]
+    #[tactic(auto, unfolding(crate::specs::Limits::has_target_beyond))]
     fn has_target_beyond(form: TargetForm, targets: &[Target]) -> bool {
-        has_target_beyond(form, targets)
+        targets.iter().any(|target| is_target_beyond(form, *target))
     }
 
-    #[inline(always)]
     fn refusal_of_targets(form: TargetForm, text: &[u8], targets: &[Target]) -> Option<Cause> {
-        refusal_of_targets(form, text, targets)
+        if has_wrong_number(form, text, targets) {
+            return Some(Cause::Count);
+        }
+        if has_same_qubit(form, targets) {
+            return Some(Cause::SameQubit);
+        }
+        None
     }
 
     #[inline(always)]

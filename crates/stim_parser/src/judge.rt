@@ -4,10 +4,10 @@ ghost use Rattle.stim_lexer.specs.Said.{reading_in};
 ghost use Rattle.stim_lexer.specs.Texts.{Closes, Refuses};
 ghost use Rattle.stim_parser.specs.declared.forms.ArgumentForm.TheVariants.{NoArguments, WholeNumbers};
 ghost use Rattle.stim_parser.specs.Arguments.{arguments_in};
-ghost use Rattle.stim_parser.specs.Limits.{has_argument_beyond, takes_probability};
+ghost use Rattle.stim_parser.specs.Limits.{has_argument_beyond};
 ghost use Rattle.stim_parser.specs.Parentheses.{Parentheses};
-ghost use Rattle.stim_parser.specs.Probabilities.{Remembers, TakesNothing};
-ghost use Rattle.stim_parser.specs.Judging.{accepted, first_of, judged, misplaces_brace, opens_block, reading_of, read_targets};
+ghost use Rattle.stim_parser.specs.Probabilities.{Remembers, RemembersText, TakesNothing};
+ghost use Rattle.stim_parser.specs.Judging.{accepted, first_of, misplaces_brace, opens_block, reading_of, read_targets};
 ghost use Rattle.stim_parser.specs.private.Questions.{ArgumentsOf, KeywordOf, has_wrong_target, refusals_of_amounts, refusals_of_block, refusals_of_keyword};
 
 use crate::argument_checks::{
@@ -68,8 +68,8 @@ fn arguments_of<'a>(
     line: Line<'a>,
 ) -> Result<bool, Cause>
     ensures refusal { ArgumentsOf causes greatest form (cut_in line.entry) result }
-    ensures last { IfOk result (λ beyond. takes_probability form ≡ true
-        → last.new.parentheses.text ≡ line.entry.arguments.now) }
+    ensures last { IfOk result (λ beyond. RemembersText form line.entry.arguments.now
+        last.new.parentheses) }
 {
     if line.stays_open {
         return Err(causes.arguments);
@@ -113,8 +113,8 @@ fn closed_arguments_of<'a>(
     requires closed { line.stays_open ≡ false }
     requires other { form ≢ WholeNumbers }
     ensures refusal { ArgumentsOf causes greatest form (cut_in line.entry) result }
-    ensures last { IfOk result (λ beyond. takes_probability form ≡ true
-        → last.new.parentheses.text ≡ line.entry.arguments.now) }
+    ensures last { IfOk result (λ beyond. RemembersText form line.entry.arguments.now
+        last.new.parentheses) }
 {
     let Some(arguments) = read_arguments(line.arguments) else {
         return Err(causes.arguments);
@@ -218,8 +218,8 @@ fn refusal_of<'a, O: Copy, T: Copy, F: Copy, J: Judge<O, T, F>, A: Allocator + C
         → targets.new.items
         ≡ read_targets J.table (J.table.target_form keyword) line.entry.targets.now) }
     ensures last { IfOk result (λ refusal. refusal ≡ None
-        → takes_probability (J.table.argument_form keyword) ≡ true
-        → last.new.parentheses.text ≡ line.entry.arguments.now) }
+        → RemembersText (J.table.argument_form keyword) line.entry.arguments.now
+        last.new.parentheses) }
 {
     let asked = J::argument_form(keyword);
     let beyond = match arguments_of(last, J::causes(), J::greatest_coordinate(), asked, line) {
@@ -243,8 +243,7 @@ fn accepted<'a, O: Copy, T: Copy, F: Copy, J: Judge<O, T, F>>(
     ensures reading { reading_in line.entry.number result targets.now
         ≡ accepted J.table line.entry.number (Some keyword) (cut_in line.entry) }
     ensures last { (last : Parentheses)
-        → (takes_probability (J.table.argument_form keyword) ≡ true
-        → last.text ≡ line.entry.arguments.now)
+        → RemembersText (J.table.argument_form keyword) line.entry.arguments.now last
         → Remembers J.table result last }
 {
     match keyword {
@@ -269,27 +268,6 @@ fn closed_at<'a, O: Copy, T: Copy>(causes: Causes, depth: usize) -> Said<'a, O>
     }
 }
 
-/// Reads a line that doesn't close a block.
-fn judged<'a, O: Copy, T: Copy, F: Copy, J: Judge<O, T, F>, A: Allocator + Copy>(
-    last: &mut Last<'a>,
-    targets: &mut Vec<T, A>,
-    depth: usize,
-    line: Line<'a>,
-) -> Result<Said<'a, O>, AllocError>
-    ensures reading { IfOk result (λ said. reading_in line.entry.number said targets.new.items
-        ≡ judged J.table depth line.entry.number (cut_in line.entry)) }
-    ensures last { IfOk result (λ said. Remembers J.table said last.new.parentheses) }
-{
-    let keyword = match keyword_of::<O, T, F, J>(last, line) {
-        Ok(keyword) => keyword,
-        Err(cause) => return Ok(Said::Refuses(cause)),
-    };
-    match refusal_of::<O, T, F, J, A>(last, targets, depth, keyword, line)? {
-        Some(cause) => Ok(Said::Refuses(cause)),
-        None => Ok(accepted::<O, T, F, J>(keyword, line, targets.as_slice())),
-    }
-}
-
 /// Reads a cut line where `depth` blocks are open, and puts its targets into `targets`, in place of what it held. Where
 /// the line is no accepted instruction, nothing is promised of `targets`.
 #[tactic(auto, unfolding(crate::specs::Judging::reading_of))]
@@ -305,6 +283,15 @@ pub fn read_line<'a, O: Copy, T: Copy, F: Copy, J: Judge<O, T, F>, A: Allocator 
 {
     match line.braces {
         Braces::ClosingAlone => Ok(closed_at::<O, T>(J::causes(), depth)),
-        _ => judged::<O, T, F, J, A>(last, targets, depth, line),
+        _ => {
+            let keyword = match keyword_of::<O, T, F, J>(last, line) {
+                Ok(keyword) => keyword,
+                Err(cause) => return Ok(Said::Refuses(cause)),
+            };
+            match refusal_of::<O, T, F, J, A>(last, targets, depth, keyword, line)? {
+                Some(cause) => Ok(Said::Refuses(cause)),
+                None => Ok(accepted::<O, T, F, J>(keyword, line, targets.as_slice())),
+            }
+        }
     }
 }

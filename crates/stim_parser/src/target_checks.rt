@@ -1,5 +1,5 @@
 ghost use Rattle.std.specs.Prelude.{◌≡◌, false, length};
-ghost use Rattle.std.specs.List.{list_all, list_any};
+ghost use Rattle.std.specs.List.{list_all};
 ghost use Rattle.stim_parser.specs.Limits.{are_of_form, has_same_qubit, has_target_beyond, has_wrong_count, is_back, is_pauli, is_plain, is_plain_or_back, is_plain_or_inverted, takes_pairs, is_target_beyond};
 
 use crate::forms::TargetForm;
@@ -86,7 +86,7 @@ fn is_plain_beyond(form: TargetForm, number: u64) -> bool
 }
 
 /// Whether a target's number is beyond its limit.
-fn is_target_beyond(form: TargetForm, target: Target) -> bool
+pub(crate) fn is_target_beyond(form: TargetForm, target: Target) -> bool
     ensures { result ≡ is_target_beyond form target }
 {
     match target {
@@ -96,14 +96,6 @@ fn is_target_beyond(form: TargetForm, target: Target) -> bool
         Target::Pauli(_, _, qubit) => is_qubit_beyond(qubit.value()),
         Target::Star => false,
     }
-}
-
-/// Whether the number of one of the targets is beyond its limit.
-#[tactic(auto, unfolding(crate::specs::Limits::has_target_beyond))]
-pub(crate) fn has_target_beyond(form: TargetForm, targets: &[Target]) -> bool
-    ensures { result ≡ has_target_beyond form targets.now }
-{
-    targets.iter().any(|target| is_target_beyond(form, *target))
 }
 
 /// Whether targets stand in pairs.

@@ -7,17 +7,6 @@ use Rattle.step_model.specs.Listing.{Listing}
 use Rattle.step_model.specs.Targets.{is_listed, target_at, targets_of}
 use Rattle.step_model.specs.TargetSets.{row_of_set}
 
--- the rows of bits for which the parts of a list of numbers stand that have these ends
-abbrev pub parts_at : ℕ → List ℕ → List ℕ → List (List Bool)
-parts_at m ends numbers =
-    map (λ r. row_of_set m (slice_range numbers (slice_index_or (0 ∷ ends) r 0) (slice_index_or ends r 0))) (range_with_len 0 (length ends))
-
--- the ends don't fall, and none is behind the last number; the numbers are below a bound
-pub record AreParts (m : ℕ) (ends numbers : List ℕ) : Type 0 where
-  pub ordered : (r : ℕ) → r < length ends → slice_index_or (0 ∷ ends) r 0 ≤ slice_index_or ends r 0
-  pub within : (r : ℕ) → r < length ends → slice_index_or ends r 0 ≤ length numbers
-  pub below : All (λ t. t < m) numbers
-
 -- how often a list has a record
 abbrev pub times_in : ℕ → List ℕ → ℕ
 times_in r [] = 0
@@ -42,7 +31,7 @@ left_from program t = concat (drop t (targets_of program))
 pub record HasRoom (whole left marks numbers : List ℕ) : Type 0 where
   pub low : (r : ℕ) → r < length marks → start_of whole r ≤ slice_index_or marks r 0
   pub ahead : (r : ℕ) → r < length marks → slice_index_or marks r 0 + times_in r left ≡ start_of whole (suc r)
-  pub within : start_of whole (length marks) ≤ length numbers
+  pub full : start_of whole (length marks) ≡ length numbers
   pub few : length numbers < 2 ^ 32
 
 -- the rows for which what was put stands

@@ -7,11 +7,11 @@ use Rattle.fault_list.proofs.ShortLineLemmas.{ordered_text}
 use Rattle.fault_list.proofs.short_lines.put_ordered.Goals as goal
 
 pub returns-in-len1-up : goal.returns-in-len1-up
-returns-in-len1-up c =
+returns-in-len1-up c = λ qubits fit.
     let terms = c.args.terms.now in
     let first = factor_text (term_at terms 0).qubit (term_at terms 0).letter in
     let before = take c.args.at c.args.buffer.now in
-    let text = ordered_text c.args.qubits terms c.in-len1-up.len_at_least c.requires.fit (sym c.is_ordered.ensures ∙ c.if-not-is_ordered.false) in
+    let text = ordered_text qubits terms c.in-len1-up.len_at_least fit (sym c.is_ordered.ensures ∙ c.if-not-is_ordered.false) in
     let rest = take_all (length terms - 1) (drop 1 terms) (omega (arith, length-drop 1 terms)) in
     record {
       within = search rules;

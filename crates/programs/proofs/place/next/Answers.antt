@@ -10,7 +10,7 @@ returns-then-not-go_to_step g c k h =
 pub overflow_add-place : goal.overflow_add-place
 overflow_add-place g c =
     let within = step_within c.args.nodes.now c.go_to_step.new.place.index (sym c.go_to_step.ensures.moved.step ∙ c.if-not-go_to_step.false) in
-    omega (arith, within, c.go_to_step.ensures.few)
+    omega (arith, within, c.go_to_step.ensures.few c.if-not-go_to_step.false)
 
 pub returns : goal.returns
 returns g c k h =

@@ -1,17 +1,19 @@
 use Rattle.std.proofs.Common.{◌≡◌, ◌<◌, ◌∙◌, [], List, Bool, false, length, get_or, ap, subst, sym, arith}
 use Rattle.std.specs.Prelude.{All, IfSome, replicate}
-use Rattle.std.proofs.lemmas.List.{get_or-set_same, length-replicate, length-set}
+use Rattle.std.proofs.lemmas.List.{get_or-set_same, length-replicate}
 use Rattle.record_targets.specs.private.Apart.{with_apart}
-use Rattle.record_targets.proofs.ApartLemmas.{put_back_set, within_as_long}
+use Rattle.record_targets.proofs.ApartLemmas.{apart_as_long, put_back_set}
+use Rattle.record_targets.specs.private.RecordSets.{AreAsLong}
+use Rattle.record_targets.proofs.changing_lists.put_back.Given.{Over}
 use Rattle.record_targets.proofs.changing_lists.put_back.Goals as goal
+use Rattle.record_targets.proofs.changing_lists.put_back.Goals.{After-toggle_each}
 
 pub toggle_each-requires-clause-rec : goal.toggle_each-requires-clause-rec
 toggle_each-requires-clause-rec g c =
-    let m = c.args.targets in
     let rows = c.args.lists.now in
     let rec = c.in-Some.rec in
     let within : rec < length rows = subst (λ o. IfSome o (λ r. r < length rows)) c.in-Some.is c.requires.within in
-    omega (arith, within, ap length (c.empty.ensures.set m c.requires.long), length-set rows rec (replicate m false))
+    omega (arith, within, c.empty.ensures.as_long.len)
 
 pub toggle_each-requires-clause-targets : goal.toggle_each-requires-clause-targets
 toggle_each-requires-clause-targets g c =
@@ -23,16 +25,16 @@ toggle_each-requires-clause-targets g c =
     ap length (ap (λ (l : List (List Bool)). get_or l rec []) (c.empty.ensures.set m c.requires.long) ∙ get_or-set_same rows rec (replicate m false) [] within) ∙ length-replicate m false in
     subst (λ n. All (λ t. t < n) c.args.set.now) (sym long) c.requires.below
 
+-- the sets stay as long
+as_long : (g : Over) (c : After-toggle_each g) → AreAsLong c.args.lists.now c.toggle_each.new.self
+as_long g c =
+    let empty = c.empty.ensures.as_long in
+    let toggle = c.toggle_each.ensures.as_long in
+    record { len = toggle.len ∙ empty.len; long = λ n all. toggle.long n (empty.long n all) }
+
 pub returns-in_err-toggle_each-clause-apart : goal.returns-in_err-toggle_each-clause-apart
 returns-in_err-toggle_each-clause-apart g c =
-    let m = c.args.targets in
-    let rows = c.args.lists.now in
-    let rec = c.in-Some.rec in
-    record {
-      long = c.toggle_each.ensures.long m (c.empty.ensures.long m c.requires.long);
-      within = within_as_long c.args.apart.now rows c.toggle_each.new.self (c.toggle_each.ensures.len ∙ (ap length (c.empty.ensures.set m c.requires.long) ∙ length-set rows rec (replicate m false))) c.requires.within;
-      below = c.requires.below;
-    }
+    apart_as_long c.args.targets c.args.lists.now c.toggle_each.new.self c.args.apart.now c.args.set.now (as_long g (goal.at.returns-in_err-toggle_each-clause-apart g c).After-toggle_each) c.requires
 
 pub returns-in_ok-toggle_each-clause-lists : goal.returns-in_ok-toggle_each-clause-lists
 returns-in_ok-toggle_each-clause-lists g c =
@@ -46,15 +48,7 @@ returns-in_ok-toggle_each-clause-lists g c =
 pub returns-in_ok-toggle_each-clause-apart : goal.returns-in_ok-toggle_each-clause-apart
 returns-in_ok-toggle_each-clause-apart g c =
     record {
-      long = c.toggle_each.ensures.long c.args.targets (c.empty.ensures.long c.args.targets c.requires.long);
+      long = (as_long g (goal.at.returns-in_ok-toggle_each-clause-apart g c).After-toggle_each).long c.args.targets c.requires.long;
       within = tt;
       below = c.requires.below;
     }
-
-pub returns-in_err-toggle_each-clause-len : goal.returns-in_err-toggle_each-clause-len
-returns-in_err-toggle_each-clause-len g c =
-    c.toggle_each.ensures.len ∙ (ap length (c.empty.ensures.set c.args.targets c.requires.long) ∙ length-set c.args.lists.now c.in-Some.rec (replicate c.args.targets false))
-
-pub returns-in_ok-toggle_each-clause-len : goal.returns-in_ok-toggle_each-clause-len
-returns-in_ok-toggle_each-clause-len g c =
-    c.toggle_each.ensures.len ∙ (ap length (c.empty.ensures.set c.args.targets c.requires.long) ∙ length-set c.args.lists.now c.in-Some.rec (replicate c.args.targets false))

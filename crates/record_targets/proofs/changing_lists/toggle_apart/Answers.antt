@@ -1,8 +1,8 @@
 use Rattle.std.proofs.Common.{◌<◌, ◌∙◌, [], length, set, ap, subst, sym, arith}
 use Rattle.std.specs.Prelude.{All, IfSome}
-use Rattle.record_targets.specs.private.Apart.{with_apart}
+use Rattle.record_targets.specs.private.Apart.{with_apart, IsApart}
 use Rattle.step_model.specs.TargetSets.{row_of_set}
-use Rattle.record_targets.proofs.ApartLemmas.{toggled_apart, within_as_long}
+use Rattle.record_targets.proofs.ApartLemmas.{apart_as_long, toggled_apart}
 use Rattle.record_targets.proofs.changing_lists.toggle_apart.Goals as goal
 
 pub toggle_each-requires-clause-rec : goal.toggle_each-requires-clause-rec
@@ -14,11 +14,9 @@ toggle_each-requires-clause-targets g c =
 
 pub returns-then-targets-lt-MANY-clause-apart : goal.returns-then-targets-lt-MANY-clause-apart
 returns-then-targets-lt-MANY-clause-apart g c =
-    record {
-      long = c.toggle_each.ensures.long c.args.count c.put_back.ensures.apart.long;
-      within = within_as_long c.put_back.new.apart c.put_back.new.lists c.toggle_each.new.self c.toggle_each.ensures.len c.put_back.ensures.apart.within;
-      below = c.requires.apart.below;
-    }
+    let new = c.toggle_each.new.self in
+    subst (IsApart c.args.count new c.put_back.new.apart) c.deref.ensures.value
+    (apart_as_long c.args.count c.put_back.new.lists new c.put_back.new.apart c.deref.result.now c.toggle_each.ensures.as_long c.put_back.ensures.apart)
 
 pub returns-clause-rows : goal.returns-clause-rows
 returns-clause-rows g c =

@@ -1,29 +1,18 @@
 use Rattle.std.proofs.Common.{◌≡◌, ◌∙◌, false, length, take, ap, subst, sym, arith}
 use Rattle.std.specs.Prelude.{All, replicate}
-use Rattle.std.proofs.lemmas.List.{length-set, take-set}
+use Rattle.std.proofs.lemmas.List.{take-set}
 use Rattle.record_targets.specs.private.Apart.{with_apart}
-use Rattle.record_targets.proofs.ApartLemmas.{all-with_apart, length-with_apart, same_lengths, take-with_apart, within_as_long}
+use Rattle.record_targets.proofs.ApartLemmas.{all-with_apart, apart_as_long, length-with_apart, same_lengths, take-with_apart}
 use Rattle.record_targets.proofs.ChangeLemmas.{all-with_changes, length-with_changes, take-with_changes}
-use Rattle.record_targets.proofs.changing_lists.ChangingLists.let_go.Given.{Over}
 use Rattle.record_targets.proofs.changing_lists.ChangingLists.let_go.Goals as goal
-use Rattle.record_targets.proofs.changing_lists.ChangingLists.let_go.Goals.{After-empty}
-
-as_many : (g : Over) (c : After-empty g) → length c.empty.new.self ≡ length c.self.inside.changes
-as_many g c =
-    ap length (c.empty.ensures.set c.self.inside.targets c.self.invariant.of_changes.long) ∙ length-set c.self.inside.changes c.args.rec (replicate c.self.inside.targets false)
 
 pub invariant_of-self : goal.invariant_of-self
 invariant_of-self g c =
-    let count = as_many g (goal.at.invariant_of-self g c).After-empty in
+    let as_long = c.empty.ensures.as_long in
     record {
       long = c.self.invariant.long;
-      of_changes =
-          record {
-            long = c.empty.ensures.long c.self.inside.targets c.self.invariant.of_changes.long;
-            within = within_as_long c.self.inside.apart c.self.inside.changes c.empty.new.self count c.self.invariant.of_changes.within;
-            below = c.self.invariant.of_changes.below;
-          };
-      count = λ some. count ∙ c.self.invariant.count (omega (arith, some, count));
+      of_changes = apart_as_long c.self.inside.targets c.self.inside.changes c.empty.new.self c.self.inside.apart c.self.inside.set.items as_long c.self.invariant.of_changes;
+      count = λ some. as_long.len ∙ c.self.invariant.count (omega (arith, some, as_long.len));
     }
 
 pub returns-then-rec-len-clause-kept : goal.returns-then-rec-len-clause-kept
@@ -34,7 +23,7 @@ returns-then-rec-len-clause-kept g c =
     let xs = c.self.inside.set.items in
     let rec = c.args.rec in
     take-with_changes rec c.self.inside.listed (with_apart m changes apart xs) (with_apart m c.empty.new.self apart xs)
-    (length-with_apart m c.empty.new.self apart xs ∙ (as_many g (goal.at.returns-then-rec-len-clause-kept g c).After-empty ∙ sym (length-with_apart m changes apart xs)))
+    (length-with_apart m c.empty.new.self apart xs ∙ (c.empty.ensures.as_long.len ∙ sym (length-with_apart m changes apart xs)))
     (take-with_apart m rec changes c.empty.new.self apart xs
     (ap (take rec) (c.empty.ensures.set m c.self.invariant.of_changes.long) ∙ take-set changes rec (replicate m false)))
     ∙ ap (take rec) c.self.view_is
@@ -52,5 +41,5 @@ returns-then-rec-len-clause-long g c = λ n all.
     let xs = c.self.inside.set.items in
     same_lengths m n _ _ (length-with_changes listed _ ∙ sym (length-with_changes listed _))
     (all-with_changes m listed (with_apart m changes apart xs) c.self.invariant.long (all-with_apart m changes apart xs c.self.invariant.of_changes.long))
-    (all-with_changes m listed (with_apart m c.empty.new.self apart xs) c.self.invariant.long (all-with_apart m c.empty.new.self apart xs (c.empty.ensures.long m c.self.invariant.of_changes.long)))
+    (all-with_changes m listed (with_apart m c.empty.new.self apart xs) c.self.invariant.long (all-with_apart m c.empty.new.self apart xs (c.empty.ensures.as_long.long m c.self.invariant.of_changes.long)))
     (subst (All (λ row. length row ≡ n)) (sym c.self.view_is) all)

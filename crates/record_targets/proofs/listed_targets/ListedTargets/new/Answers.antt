@@ -1,8 +1,11 @@
-use Rattle.std.proofs.Common.{◌≡◌, ℕ, length, ap, subst, sym, ◌∙◌, arith}
-use Rattle.std.specs.Prelude.{replicate}
+use Rattle.std.proofs.Common.{◌≡◌, ◌<◌, ℕ, length, ap, ap₂, subst, sym, ◌∙◌, arith}
+use Rattle.std.specs.Prelude.{All, map, replicate}
 use Rattle.std.proofs.lemmas.List.{length-replicate}
-use Rattle.record_targets.specs.private.ListedTargets.{AreParts, left_from, parts_at, start_of}
-use Rattle.record_targets.proofs.ListedLemmas.{all_parts, all_rows, none_put}
+use Rattle.flat_lists.proofs.CutLemmas.{All-cut}
+use Rattle.step_model.specs.TargetSets.{row_of_set}
+use Rattle.step_model.specs.Targets.{targets_of}
+use Rattle.record_targets.specs.private.ListedTargets.{left_from, start_of}
+use Rattle.record_targets.proofs.ListedLemmas.{all_rows, are_ends, none_put}
 use Rattle.record_targets.proofs.SetLemmas.{listing_below-all}
 use Rattle.record_targets.proofs.listed_targets.ListedTargets.new.Goals as goal
 
@@ -18,16 +21,19 @@ put_all-requires g c =
     none_put program marks c.in_ok-numbers.numbers.items (long ∙ c.in_ok-count_all.ensures.len) (c.in_ok-count.ensures.starts whole counted)
     (blank ∙ ap (λ (n : ℕ). replicate n 0) sum) (omega (arith, ap length blank, length-replicate {A = ℕ} c.in_ok-count.count 0, c.in_ok-count.ensures.few))
 
+pub cut-requires : goal.cut-requires
+cut-requires g c = are_ends c.args.program.now.listing c.put_all.new.marks.items c.put_all.new.numbers.items c.put_all.ensures
+
 pub invariant_of-result : goal.invariant_of-result
 invariant_of-result g c =
-    let marks = c.put_all.new.marks.items in
-    let numbers = c.put_all.new.numbers.items in
-    subst (λ n. AreParts n marks numbers) (sym c.target_count.ensures.count) (all_parts c.args.program.now.listing marks numbers c.put_all.ensures)
+    let IsBelow : ℕ → Type 0 = λ t. t < length (targets_of c.args.program.now.listing) in
+    subst (λ n. All (All (λ t. t < n)) c.cut.result) (sym c.target_count.ensures.count)
+    (subst (All (All IsBelow)) (sym c.cut.ensures) (All-cut IsBelow 0 c.put_all.new.marks.items c.put_all.new.numbers.items c.put_all.ensures.below))
 
 pub returns : goal.returns
 returns g c =
     let program = c.args.program.now.listing in
     let marks = c.put_all.new.marks.items in
     let numbers = c.put_all.new.numbers.items in
-    ap (λ n. parts_at n marks numbers) c.target_count.ensures.count
+    ap₂ (λ n lists. map (row_of_set n) lists) c.target_count.ensures.count c.cut.ensures
     ∙ (all_rows program marks numbers c.put_all.ensures ∙ listing_below-all program)

@@ -1,5 +1,5 @@
 use Rattle.std.proofs.lemmas.List.{length-set}
-use Rattle.record_targets.proofs.LinkLemmas.{lists_without, rows_without, rows_stay_long}
+use Rattle.record_targets.proofs.LinkLemmas.{lists_without, rows_as_long, rows_without}
 use Rattle.record_targets.proofs.record_lists.RecordLists.empty.Goals as goal
 
 pub invariant_of-self : goal.invariant_of-self
@@ -10,7 +10,7 @@ pub returns-clause-set : goal.returns-clause-set
 returns-clause-set g c = λ m.
     rows_without c.self.inside.targets m c.args.rec c.self.inside.links.items c.self.inside.places.items c.args.self.now c.self.view_is c.requires
 
-pub returns-clause-long : goal.returns-clause-long
-returns-clause-long g c = λ n.
-    rows_stay_long c.self.inside.targets n c.self.inside.links.items c.self.inside.links.items c.self.inside.places.items _ c.args.self.now c.self.view_is
+pub returns-clause-as_long : goal.returns-clause-as_long
+returns-clause-as_long g c =
+    rows_as_long c.self.inside.targets c.self.inside.links.items c.self.inside.links.items c.self.inside.places.items _ c.args.self.now c.self.view_is
     (length-set c.self.inside.places.items c.args.rec 0)

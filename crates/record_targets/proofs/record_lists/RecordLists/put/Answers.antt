@@ -1,9 +1,7 @@
-use Rattle.std.proofs.Common.{refl, [], List, Bool, length, get_or, set, ap, sym, ◌∙◌}
-use Rattle.std.proofs.lemmas.List.{length-map, length-set}
+use Rattle.std.proofs.Common.{refl, [], List, Bool, get_or, set, ap, ◌∙◌}
+use Rattle.std.proofs.lemmas.List.{length-set}
 use Rattle.record_targets.specs.ListingSets.{toggled_each}
-use Rattle.record_targets.specs.private.Links.{list_at}
-use Rattle.step_model.specs.TargetSets.{row_of_set}
-use Rattle.record_targets.proofs.LinkLemmas.{lists_grown, lists_put, low_at, rows_put, rows_stay_long}
+use Rattle.record_targets.proofs.LinkLemmas.{lists_grown, lists_put, low_at, rows_as_long, rows_put}
 use Rattle.record_targets.proofs.record_lists.RecordLists.put.Goals as goal
 
 pub invariant_of-self : goal.invariant_of-self
@@ -29,27 +27,11 @@ returns-clause-ok g c =
     rows_put m c.args.rec links places place c.put_each.new.links.items c.in_ok-first.first c.args.targets.now c.self.invariant.back c.self.invariant.placed low.0 c.index.ensures low.1 c.in_ok-first.ensures.put
     ∙ ap (λ (rows : List (List Bool)). set rows c.args.rec (toggled_each c.args.targets.now (get_or rows c.args.rec []))) c.self.view_is
 
-pub returns-in_err-first-clause-len : goal.returns-in_err-first-clause-len
-returns-in_err-first-clause-len g c =
-    let m = c.self.inside.targets in
-    let places = c.self.inside.places.items in
-    length-map places (λ k. row_of_set m (list_at c.put_each.new.links.items k))
-    ∙ (sym (length-map places (λ k. row_of_set m (list_at c.self.inside.links.items k))) ∙ ap length c.self.view_is)
+pub returns-in_err-first-clause-as_long : goal.returns-in_err-first-clause-as_long
+returns-in_err-first-clause-as_long g c =
+    rows_as_long c.self.inside.targets c.self.inside.links.items c.put_each.new.links.items c.self.inside.places.items c.self.inside.places.items c.args.self.now c.self.view_is refl
 
-pub returns-clause-len : goal.returns-clause-len
-returns-clause-len g c =
-    let m = c.self.inside.targets in
-    let places = c.self.inside.places.items in
-    let first = c.in_ok-first.first in
-    length-map (set places c.args.rec first) (λ k. row_of_set m (list_at c.put_each.new.links.items k))
-    ∙ (length-set places c.args.rec first
-    ∙ (sym (length-map places (λ k. row_of_set m (list_at c.self.inside.links.items k))) ∙ ap length c.self.view_is))
-
-pub returns-in_err-first-clause-long : goal.returns-in_err-first-clause-long
-returns-in_err-first-clause-long g c = λ n.
-    rows_stay_long c.self.inside.targets n c.self.inside.links.items c.put_each.new.links.items c.self.inside.places.items c.self.inside.places.items c.args.self.now c.self.view_is refl
-
-pub returns-clause-long : goal.returns-clause-long
-returns-clause-long g c = λ n.
-    rows_stay_long c.self.inside.targets n c.self.inside.links.items c.put_each.new.links.items c.self.inside.places.items _ c.args.self.now c.self.view_is
+pub returns-clause-as_long : goal.returns-clause-as_long
+returns-clause-as_long g c =
+    rows_as_long c.self.inside.targets c.self.inside.links.items c.put_each.new.links.items c.self.inside.places.items _ c.args.self.now c.self.view_is
     (length-set c.self.inside.places.items c.args.rec c.in_ok-first.first)

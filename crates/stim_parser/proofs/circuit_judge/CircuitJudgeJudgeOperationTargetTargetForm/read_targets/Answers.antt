@@ -1,7 +1,7 @@
 use Rattle.std.proofs.Common.{◌≡◌, true, false, List, Some, ap, sym, ◌∙◌}
 use Rattle.stim_parser.specs.declared.target.Target.{Target}
 use Rattle.stim_parser.specs.Verdicts.{line_targets, takes_none}
-use Rattle.stim_parser.proofs.circuit_judge.read_line_targets.Goals as goal
+use Rattle.stim_parser.proofs.circuit_judge.CircuitJudgeJudgeOperationTargetTargetForm.read_targets.Goals as goal
 
 pub returns-then-takes_none : goal.returns-then-takes_none
 unfolding line_targets
