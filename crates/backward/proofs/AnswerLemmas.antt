@@ -11,9 +11,9 @@ use Rattle.step_model.specs.HitModels.{model_of}
 use Rattle.step_model.specs.Listing.{Listing}
 use Rattle.step_model.proofs.EndsLemmas.{TakesSome-beginning}
 use Rattle.error_models.specs.ModelText.{model_text}
-use Rattle.streams.specs.Held.{Held}
-use Rattle.streams.specs.Pushed.{IsPushed, Outlet, Pushes}
-use Rattle.streams.proofs.Finishing.{StaysFailed, all-finished, beginning-finished, count-finished, fresh}
+use Rattle.step_model.specs.Held.{Held}
+use Rattle.step_model.specs.Pushed.{IsPushed, Outlet, Pushes}
+use Rattle.step_model.proofs.Finishing.{StaysFailed, all-finished, beginning-finished, count-finished, fresh}
 use Rattle.backward.specs.Places.{NoneIsRandom}
 use Rattle.backward.specs.private.Answered.{Answers, PushesAnswer}
 use Rattle.backward.specs.private.Points.{PushesSome}

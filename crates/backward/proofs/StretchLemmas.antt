@@ -9,9 +9,9 @@ use Rattle.programs.specs.Kept.{KeptProgram}
 use Rattle.step_model.specs.HitModels.{model_of}
 use Rattle.step_model.specs.WellFormed.{IsWellFormed}
 use Rattle.error_models.specs.ModelText.{detectors_text, line_text, lines_text, model_text, observables_text}
-use Rattle.streams.specs.Held.{Held}
-use Rattle.streams.specs.Pushed.{IsPushed, Pushes}
-use Rattle.streams.proofs.Pushing.{Pushes-trans}
+use Rattle.step_model.specs.Held.{Held}
+use Rattle.step_model.specs.Pushed.{IsPushed, Pushes}
+use Rattle.step_model.proofs.Pushing.{Pushes-trans}
 use Rattle.backward.specs.declared.found.Found.{Found}
 use Rattle.backward.specs.declared.point.KeptPoint.{KeptPoint}
 use Rattle.backward.specs.declared.point.Point.{Point}

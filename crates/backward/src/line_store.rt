@@ -22,14 +22,22 @@ pub(crate) trait LineStore {
         requires entry { entry < length (program self.old).kept }
         requires named { All (λ t. t < length (targets_of (program self.old).listing)) targets.now }
         ensures program { program self.new ≡ program self.old }
-        ensures holds { OnOk result (Gives (holds self.old) (holds self.new) (record { text = (kept_at (program self.old) entry).text; targets = targets.now } ∷ [])) };
+        ensures holds { OnOk result
+            (Gives (holds self.old) (holds self.new)
+            (record { text = (kept_at (program self.old) entry).text; targets = targets.now }
+            ∷ [])) };
 
     /// The same with targets that come from the last to the first.
     fn give_reversed(&mut self, entry: u32, targets: &[u32]) -> Result<(), AllocError>
         requires entry { entry < length (program self.old).kept }
         requires named { All (λ t. t < length (targets_of (program self.old).listing)) targets.now }
         ensures program { program self.new ≡ program self.old }
-        ensures holds { OnOk result (Gives (holds self.old) (holds self.new) (record { text = (kept_at (program self.old) entry).text; targets = reverse targets.now } ∷ [])) };
+        ensures holds { OnOk result
+            (Gives (holds self.old) (holds self.new)
+            (record {
+              text = (kept_at (program self.old) entry).text;
+              targets = reverse targets.now;
+            } ∷ [])) };
 }
 
 /// A model of a program's lines.

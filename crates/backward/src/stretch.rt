@@ -2,7 +2,7 @@
 ghost use Rattle.std.specs.Prelude.{◌≡◌, ◌<◌, ◌≤◌, ◌⊎◌, ◌++◌, [], List, reverse, true, false, IfOk, OnOk, OnErr};
 ghost use Rattle.step_model.specs.ErrorModels.{ErrorLine};
 ghost use Rattle.error_models.specs.HeldText.{HoldsLines};
-ghost use Rattle.streams.specs.Pushed.{Pushes};
+ghost use Rattle.step_model.specs.Pushed.{Pushes};
 ghost use Rattle.backward.specs.private.Passes.{IsPassed, Stays};
 ghost use Rattle.backward.specs.private.Stretches.{lines_between, text_between};
 ghost use Rattle.backward.specs.private.Points.{AreParts, ArePoints, IsFor, IsPointOf, IsReady, PushesSome, first_place};
@@ -15,8 +15,7 @@ use crate::text_store::TextStore;
 use error_models::HeldText;
 use programs::Program;
 use std::alloc::{AllocError, Allocator};
-use step_model::Sink;
-use streams::Pieces;
+use step_model::{Pieces, Sink};
 use trackers::Tracker;
 
 /// How many points are left on the way to the start of a stretch, at most.

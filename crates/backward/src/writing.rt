@@ -2,7 +2,7 @@
 ghost use Rattle.std.specs.Prelude.{◌≡◌, ◌≤◌, ◌-◌, ◌⊎◌, ◌++◌, [], false, true, length, slice_index_or, IfOk, IfErr, IfNone, IfSome, OnErr};
 ghost use Rattle.std.specs.List.{flat_map, range_with_len};
 ghost use Rattle.error_models.specs.ModelText.{detector_text, detectors_text, model_text, observables_text};
-ghost use Rattle.streams.specs.Pushed.{Pushes};
+ghost use Rattle.step_model.specs.Pushed.{Pushes};
 ghost use Rattle.step_model.specs.Ends.{Takes, TakesSome, write_failures};
 ghost use Rattle.step_model.specs.Faults.{memory_fault, write_fault};
 ghost use Rattle.step_model.specs.HitModels.{model_of};
@@ -23,8 +23,7 @@ use error_models::{DetectorLines, MOST_LINES, push_observable};
 use programs::{Program, Walk};
 use record_targets::target_count;
 use std::alloc::{AllocError, Allocator};
-use step_model::{Fault, Place, Sink};
-use streams::Pieces;
+use step_model::{Fault, Pieces, Place, Sink};
 use trackers::Tracker;
 
 /// The room for the text of error lines. Up to five times as many bytes are held where that is all of it, else a quarter as

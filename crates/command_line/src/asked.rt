@@ -50,7 +50,8 @@ fn asked_in<'a>(matches: &ArgMatches<'a>) -> Asked<'a> {
 fn asked_without_matches<'a>(alloc: Global, error: &Error) -> Asked<'a>
     ensures memory { kind_of error.now ≡ OutOfMemory → result ≡ NoMemory }
     ensures help { kind_of error.now ≡ DisplayHelp → IsHelpOrNoMemory result }
-    ensures others { kind_of error.now ≢ OutOfMemory → kind_of error.now ≢ DisplayHelp → result ≡ Usage }
+    ensures others { kind_of error.now ≢ OutOfMemory → kind_of error.now ≢ DisplayHelp
+        → result ≡ Usage }
 {
     match error.kind() {
         ErrorKind::OutOfMemory => Asked::NoMemory,

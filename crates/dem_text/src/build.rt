@@ -34,8 +34,10 @@ fn push_error<'a, A: Allocator + Copy>(
     requires few { counts.detectors + counts.observables ≤ 2 ^ 32 }
     ensures { IfOk result
         (λ _. model.new
-        ≡ record model.old
-        { lines = model.old.lines ++ error_lines counts.detectors counts.observables (line.now ∷ []) }) }
+        ≡ record model.old {
+          lines = model.old.lines
+              ++ error_lines counts.detectors counts.observables (line.now ∷ []);
+        }) }
 {
     if !line.is_error() {
         return Ok(());
@@ -60,8 +62,10 @@ fn push_errors<'a, A: Allocator + Copy>(
     requires short { length (reached table.now) < 2 ^ 64 }
     ensures { IfOk result
         (λ _. model.new
-        ≡ record model.old
-        { lines = model.old.lines ++ error_lines counts.detectors counts.observables (placed_lines table.now) }) }
+        ≡ record model.old {
+          lines = model.old.lines
+              ++ error_lines counts.detectors counts.observables (placed_lines table.now);
+        }) }
 {
     let mut room = Room {
         targets: Vec::new(alloc),

@@ -55,7 +55,8 @@ impl<A: Allocator + Copy> Drop for KeptLines<'_, A> {
 fn line_of_rare<'t, 'a>(text: &'a [u8], rare: Rare, numbers: &'t [i64]) -> Option<TableLine<'t, 'a>>
     requires { IsRareKept text.now rare numbers.now }
     ensures { MatchOption result (HasNoLine (Some (item_of_rare text.now rare)))
-        (λ line. (Some (InstructionLine (instruction_of line)) ≡ Some (item_of_rare text.now rare)) × IsTableLine line) }
+        (λ line. (Some (InstructionLine (instruction_of line)) ≡ Some (item_of_rare text.now rare))
+        × IsTableLine line) }
 {
     match rare {
         Rare::Line {
@@ -151,7 +152,8 @@ impl<'a, A: Allocator + Copy> KeptLines<'a, A> {
     pub(crate) fn line_at(&self, place: usize) -> Option<TableLine<'_, 'a>>
         ensures few { IfSome result (λ line. place < 2 ^ 63) }
         ensures line { MatchOption result (HasNoLine (slice_get self.now.items place))
-            (λ line. (Some (InstructionLine (instruction_of line)) ≡ slice_get self.now.items place) × IsTableLine line) }
+            (λ line. (Some (InstructionLine (instruction_of line)) ≡ slice_get self.now.items place)
+            × IsTableLine line) }
     {
         if place >= self.entries.len() {
             return None;

@@ -86,7 +86,8 @@ fn declared<'a, A: Allocator + Copy>(
     targets: &mut Vec<Target, A>,
     line: Line<'a>,
 ) -> Result<Option<LineCounts>, AllocError>
-    ensures { IfOk result (λ found. IfSome found (HasDeclared line.entry.number (cut_in line.entry))) }
+    ensures { IfOk result
+        (λ found. IfSome found (HasDeclared line.entry.number (cut_in line.entry))) }
 {
     match read_line(last, targets, 0, line)? {
         Said::Accepts { operation, .. } => {
@@ -158,7 +159,10 @@ fn turn_first<A: Allocator + Copy>(
 ) -> Result<(), AllocError>
     requires { Speaks (line_at text.now 0) }
     ensures { IfOk result
-        (λ _. bits.new ≡ (if named then turned bits.old (numbers_of detectors (read_targets (cut_of (line_at text.now 0)).targets)) else bits.old)) }
+        (λ _. bits.new
+        ≡ (if named then turned bits.old
+        (numbers_of detectors
+        (read_targets (cut_of (line_at text.now 0)).targets)) else bits.old)) }
 {
     if named {
         read_targets_at(text, 0, room)?;
@@ -182,7 +186,8 @@ impl<'a> Leading<'a> {
         requires unnamed { (k : ℕ) → end ≤ k → slice_index_or named.now k false ≡ false }
         requires within { end ≤ length named.now }
         ensures { IfOk result (λ _. bits.new
-            ≡ turned_over detectors named.now 0 (map placed (errors_of self.entry.text.now self.entry.counts.errors)) bits.old) }
+            ≡ turned_over detectors named.now 0
+            (map placed (errors_of self.entry.text.now self.entry.counts.errors)) bits.old) }
     {
         let last = end.min(self.counts.errors);
         let mut rest = self.text;

@@ -93,7 +93,10 @@ impl<'a, A: Allocator + Copy> LineReader<'a, A> {
         requires speaks { Speaks (line_at self.old.lines.text at) }
         requires number { line.number ≡ line_number self.old.lines.text at }
         requires cut { cut_in line ≡ cut_of (line_at self.old.lines.text at) }
-        ensures { IfOk result (λ refused. HasRead (reading_of model_table (length self.old.opened.items) line.entry.number (cut_in line.entry)) line.entry.number refused
+        ensures { IfOk result
+            (λ refused. HasRead
+            (reading_of model_table (length self.old.opened.items) line.entry.number
+            (cut_in line.entry)) line.entry.number refused
             self.old.lines self.old.opened.items self.new.lines self.new.opened.items) }
     {
         let number = line.number;

@@ -14,8 +14,10 @@ pub(crate) fn line_in(text: &[u8]) -> Result<Option<Line<'_>>, Fault>
     requires { list_any is_line_feed text.now ≡ false }
     ensures { MatchResult result
         (λ found. MatchOption found (says_nothing text.now ≡ true)
-        (λ line. (says_nothing text.now ≡ false) × (has_bad_byte text.now ≡ false) × (cut_in line ≡ cut_of text.now)))
-        (λ fault. (says_nothing text.now ≡ false) × (has_bad_byte text.now ≡ true) × (fault.cause ≡ cause.Byte)) }
+        (λ line. (says_nothing text.now ≡ false) × (has_bad_byte text.now ≡ false)
+        × (cut_in line ≡ cut_of text.now)))
+        (λ fault. (says_nothing text.now ≡ false) × (has_bad_byte text.now ≡ true)
+        × (fault.cause ≡ cause.Byte)) }
 {
     let mut lexer = Lexer::new(text);
     lexer.next_line()

@@ -46,7 +46,8 @@ impl<'w, 'a> Model for PlacedLine<'w, 'a> {
 /// its limit.
 fn shifted(shift: u128, detectors: u32) -> Option<u32>
     ensures { MatchOption result (nat_lt most_detectors (count_at shift detectors) ≡ true)
-        (λ found. (found ≡ count_at shift detectors) × (nat_lt most_detectors (count_at shift detectors) ≡ false)) }
+        (λ found. (found ≡ count_at shift detectors)
+        × (nat_lt most_detectors (count_at shift detectors) ≡ false)) }
 {
     if detectors == 0 {
         return Some(0);
@@ -85,7 +86,8 @@ fn move_all<A: Allocator + Copy>(
     requires room { All (λ o. nat_abs o + beyond_stated < 2 ^ 127) offset.now }
     requires small { AreSmall stated.now }
     ensures { IfOk result (λ within. MatchBool within
-        ((found.new.items ≡ moved offset.now stated.now) × (list_any is_coordinate_beyond (moved offset.now stated.now) ≡ false))
+        ((found.new.items ≡ moved offset.now stated.now)
+        × (list_any is_coordinate_beyond (moved offset.now stated.now) ≡ false))
         (list_any is_coordinate_beyond (moved offset.now stated.now) ≡ true)) }
 {
     found.clear();
@@ -109,7 +111,9 @@ fn move_stated<A: Allocator + Copy>(
     requires room { All (λ o. nat_abs o + beyond_stated < 2 ^ 127) offset.now }
     requires small { AreSmall stated.now }
     ensures { IfOk result (λ within. MatchBool within
-        ((found.new.items ≡ coordinates_from operation stated.now offset.now) × (list_any is_coordinate_beyond (coordinates_from operation stated.now offset.now) ≡ false))
+        ((found.new.items ≡ coordinates_from operation stated.now offset.now)
+        × (list_any is_coordinate_beyond (coordinates_from operation stated.now offset.now)
+        ≡ false))
         (list_any is_coordinate_beyond (coordinates_from operation stated.now offset.now) ≡ true)) }
 {
     match operation {
@@ -164,7 +168,8 @@ impl<'w, 'a> PlacedLine<'w, 'a> {
     /// How many detectors there are up to the greatest that the line names; none where that is beyond its limit.
     pub(crate) fn detectors(&self) -> Option<u32>
         ensures { MatchOption result (has_target_beyond self.now.targets ≡ true)
-            (λ found. (found ≡ greatest_by detectors_to self.now.targets) × (has_target_beyond self.now.targets ≡ false)) }
+            (λ found. (found ≡ greatest_by detectors_to self.now.targets)
+            × (has_target_beyond self.now.targets ≡ false)) }
     {
         let shift = self.shift;
         shifted(shift.detectors, self.line.extent.detectors)
@@ -184,7 +189,8 @@ impl<'w, 'a> PlacedLine<'w, 'a> {
         found: &mut Vec<i64, A>,
     ) -> Result<bool, AllocError>
         ensures { IfOk result (λ within. MatchBool within
-            ((found.new.items ≡ self.now.coordinates) × (list_any is_coordinate_beyond self.now.coordinates ≡ false))
+            ((found.new.items ≡ self.now.coordinates)
+            × (list_any is_coordinate_beyond self.now.coordinates ≡ false))
             (list_any is_coordinate_beyond self.now.coordinates ≡ true)) }
     {
         let shift = self.shift;

@@ -17,7 +17,9 @@ pub(crate) fn read_lines<'a, A: Allocator + Copy>(
     leading: Leading<'a>,
 ) -> Result<LineTable<'a, A>, Fault>
     requires { IsLeading leading.text.now leading.rest.now leading.lines leading.counts }
-    ensures tree { IfOk result (λ lines. Writes leading.entry.text.now (whole_tree leading.entry.text.now leading.entry.lines lines)) }
+    ensures tree { IfOk result
+        (λ lines. Writes leading.entry.text.now
+        (whole_tree leading.entry.text.now leading.entry.lines lines)) }
     ensures few { IfOk result (λ lines. leading.entry.lines + length (items_of lines) < 2 ^ 63) }
     ensures refusal { IfErr result
         (λ fault. (fault ≡ memory_fault) ⊎ IsRefusedBy leading.entry.text.now fault) }

@@ -71,7 +71,8 @@ impl<'a, A: Allocator + Copy> LineTable<'a, A> {
     pub(crate) fn line_at(&self, place: usize) -> Option<TableLine<'_, 'a>>
         ensures few { IfSome result (λ line. place < 2 ^ 63) }
         ensures line { MatchOption result (HasNoLine (slice_get (items_of self.now) place))
-            (λ line. (Some (InstructionLine (instruction_of line)) ≡ slice_get (items_of self.now) place) × IsTableLine line) }
+            (λ line. (Some (InstructionLine (instruction_of line))
+            ≡ slice_get (items_of self.now) place) × IsTableLine line) }
     {
         self.lines.line_at(place)
     }

@@ -31,9 +31,11 @@ pub(crate) fn answer_analysis<W: Sink, A: Allocator + Copy>(
     ensures answered { Answers W.taken W.failures sink.old sink.new
         (refused_or (analysis_output text.now)) result }
     ensures exact { IfOk result (λ status. status ≡ Done →
-        (bytes : List ℕ) × Takes (W.taken sink.old) (W.taken sink.new) bytes × IsExactFor text.now bytes) }
+        (bytes : List ℕ) × Takes (W.taken sink.old) (W.taken sink.new) bytes
+        × IsExactFor text.now bytes) }
     ensures random { IfOk result (λ status. status ≡ Random →
-        (bytes : List ℕ) × Takes (W.taken sink.old) (W.taken sink.new) bytes × IsRandomFor text.now bytes) }
+        (bytes : List ℕ) × Takes (W.taken sink.old) (W.taken sink.new) bytes
+        × IsRandomFor text.now bytes) }
 {
     match read_program(alloc, text) {
         Ok(program) => write_finding(alloc, &program, sink),
@@ -50,9 +52,11 @@ fn write_finding<W: Sink, A: Allocator + Copy>(
     ensures answered { Answers W.taken W.failures sink.old sink.new
         (found_in program.now.listing) result }
     ensures exact { IfOk result (λ status. status ≡ Done →
-        (bytes : List ℕ) × Takes (W.taken sink.old) (W.taken sink.new) bytes × IsExactIn program.now.listing bytes) }
+        (bytes : List ℕ) × Takes (W.taken sink.old) (W.taken sink.new) bytes
+        × IsExactIn program.now.listing bytes) }
     ensures random { IfOk result (λ status. status ≡ Random →
-        (bytes : List ℕ) × Takes (W.taken sink.old) (W.taken sink.new) bytes × IsRandomIn program.now.listing bytes) }
+        (bytes : List ℕ) × Takes (W.taken sink.old) (W.taken sink.new) bytes
+        × IsRandomIn program.now.listing bytes) }
 {
     program.well_formed();
     let words = fresh_words(&alloc, program)?;

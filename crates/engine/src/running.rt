@@ -82,7 +82,8 @@ fn coins_given<A: Allocator + Copy>(
     ensures ok { IfOk result (λ coins. run_coins program.now.listing (option_copied text.entry)
         ≡ Some coins.items) }
     ensures err { IfErr result (λ e. (e ≡ memory_fault)
-        ⊎ ((e ≡ without_line CoinCount) × (run_coins program.now.listing (option_copied text.entry) ≡ None))) }
+        ⊎ ((e ≡ without_line CoinCount)
+        × (run_coins program.now.listing (option_copied text.entry) ≡ None))) }
 {
     match text {
         Some(text) => read_coins(alloc, program, text),

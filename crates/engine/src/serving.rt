@@ -34,12 +34,16 @@ pub fn serve<R: Source, W: Sink, A: Allocator + Copy>(
         status ≡ (output_of order.now text).status)) }
 
     // The headline: an analysis that is done wrote the text of a model that fits the circuit and is exact.
-    ensures exact { IfOk result (λ status. order.now ≡ Analyze → status ≡ Done → IfSome (R.left source.old) (λ text.
-        (bytes : List ℕ) × Takes (W.taken sink.old) (W.taken sink.new) bytes × IsExactFor text bytes)) }
+    ensures exact { IfOk result (λ status. order.now ≡ Analyze → status ≡ Done
+        → IfSome (R.left source.old) (λ text.
+        (bytes : List ℕ) × Takes (W.taken sink.old) (W.taken sink.new) bytes
+        × IsExactFor text bytes)) }
 
     // Its second half: a target that an analysis names as random differs under the two coin lists that it gives.
-    ensures random { IfOk result (λ status. order.now ≡ Analyze → status ≡ Random → IfSome (R.left source.old) (λ text.
-        (bytes : List ℕ) × Takes (W.taken sink.old) (W.taken sink.new) bytes × IsRandomFor text bytes)) }
+    ensures random { IfOk result (λ status. order.now ≡ Analyze → status ≡ Random
+        → IfSome (R.left source.old) (λ text.
+        (bytes : List ℕ) × Takes (W.taken sink.old) (W.taken sink.new) bytes
+        × IsRandomFor text bytes)) }
 
     // Which half it is: a text that stands for a program is answered Random exactly where some target is random.
     ensures decided { IfOk result (λ status. order.now ≡ Analyze

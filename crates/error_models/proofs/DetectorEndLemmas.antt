@@ -3,7 +3,7 @@ use Rattle.std.proofs.Common.{◌≡◌, ℕ, ◌+◌, ◌-◌, ◌<◌, ◌^◌
 use Rattle.std.proofs.Math.Seq.{get_or-append_seam, set-append_seam}
 use Rattle.std.proofs.lemmas.List.{drop-set-add, get_or-drop}
 use Rattle.error_models.specs.private.DetectorEnds.{HasEnd}
-use Rattle.streams.proofs.LastDigits.{Digits, digits_of, last_falls}
+use Rattle.step_model.proofs.LastDigits.{Digits, digits_of, last_falls}
 
 -- where the last digit stands
 record IsLast (n len : ℕ) (bytes front : List ℕ) (last : ℕ) : Type 0 where

@@ -7,7 +7,7 @@ use Rattle.std.proofs.lemmas.List.{drop_more, reverse-append}
 use Rattle.error_models.specs.ErrorLines.{text_at}
 use Rattle.error_models.specs.ModelText.{target_text, targets_text}
 use Rattle.error_models.proofs.ErrorLineLemmas.{text_at-get_or}
-use Rattle.streams.proofs.LastDigits.{rises_at_end}
+use Rattle.step_model.proofs.LastDigits.{rises_at_end}
 
 six_digits : (n : ℕ) → n < 1000000 → length (decimal n) ≤ 6
 six_digits n h = length-decimal-le 6 n (omega arith) (omega (arith, h)) (omega (arith, h))

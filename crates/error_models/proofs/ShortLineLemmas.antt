@@ -6,9 +6,9 @@ use Rattle.std.proofs.lemmas.Fmt.{length-decimal-le}
 use Rattle.std.proofs.lemmas.Grind.{drop-set_at, flat_map-append}
 use Rattle.std.proofs.lemmas.List.{take_all, drop_all, drop_more, drop-drop, drop_at, drop-append-le, length-take-le}
 use Rattle.std.proofs.Math.Seq.{take-add}
-use Rattle.streams.specs.Held.{Held}
-use Rattle.streams.specs.Pushed.{Pushes}
-use Rattle.streams.proofs.Pushing.{Pushes-trans}
+use Rattle.step_model.specs.Held.{Held}
+use Rattle.step_model.specs.Pushed.{Pushes}
+use Rattle.step_model.proofs.Pushing.{Pushes-trans}
 use Rattle.error_models.specs.ModelText.{target_text, targets_text}
 
 -- the digits of a target

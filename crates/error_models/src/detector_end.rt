@@ -67,7 +67,8 @@ impl DetectorEnd {
         requires room { END ≤ end }
         ensures within { result ≤ end }
         ensures least { end ≤ result + END }
-        ensures written { drop result buffer.new ≡ end_text self.now.detector ++ drop end buffer.old }
+        ensures written { drop result buffer.new
+            ≡ end_text self.now.detector ++ drop end buffer.old }
     {
         // A local copy cannot overlap the buffer, so no check is made at run time.
         let bytes = self.bytes;

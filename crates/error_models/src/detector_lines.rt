@@ -2,14 +2,13 @@
 ghost use Rattle.std.specs.Prelude.{◌≡◌, ◌<◌, ◌≤◌, ◌+◌, ◌++◌, length};
 ghost use Rattle.error_models.specs.HeldText.{no_text};
 ghost use Rattle.error_models.specs.ModelText.{detector_text};
-ghost use Rattle.streams.specs.Pushed.{Pushes};
+ghost use Rattle.step_model.specs.Pushed.{Pushes};
 
 use crate::detector_end::DetectorEnd;
 use crate::short_detectors::coordinates_before;
 use crate::short_lines::text_before;
 use std::marker::Model;
-use step_model::Sink;
-use streams::Pieces;
+use step_model::{Pieces, Sink};
 
 /// How many coordinates a detector has at most whose line is put here.
 pub const MOST_COORDINATES: usize = 16;

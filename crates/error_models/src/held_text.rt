@@ -1,13 +1,12 @@
 //! The text of error lines, taken out of where they are put.
 ghost use Rattle.std.specs.Prelude.{◌≡◌};
 ghost use Rattle.error_models.specs.HeldText.{text_in, texts_of};
-ghost use Rattle.streams.specs.Pushed.{Pushes};
+ghost use Rattle.step_model.specs.Pushed.{Pushes};
 
 use crate::text_block::TextBlock;
 use std::alloc::Allocator;
 use std::marker::Model;
-use step_model::Sink;
-use streams::Pieces;
+use step_model::{Pieces, Sink};
 
 /// Text that was taken out of a `LinesText`, in its blocks.
 pub struct HeldText<A: Allocator + Copy> {

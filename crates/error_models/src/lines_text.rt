@@ -134,7 +134,10 @@ impl<'a, A: Allocator + Copy> LinesText<'a, A> {
         ensures ok { OnOk result
             (self.new.text
             ≡ line_text self.old.detectors
-            (record { text = text_at self.old.texts number; targets = reversed_where reversed targets.now })
+            (record {
+              text = text_at self.old.texts number;
+              targets = reversed_where reversed targets.now;
+            })
             ++ self.old.text) }
         ensures kept { EndsIn self.old.text self.new.text }
         ensures detectors { self.new.detectors ≡ self.old.detectors }

@@ -50,8 +50,12 @@ impl<'a, A: Allocator + Copy> Model<'a, A> {
     /// A model without lines, with a detector for each list of coordinates. Takes no memory.
     pub fn new(alloc: A, coordinates: FlatLists<i64, A>, observables: usize) -> Self
         ensures { result
-            ≡ record
-            { lines = []; coordinates = coordinates; detectors = length coordinates; observables = observables } }
+            ≡ record {
+              lines = [];
+              coordinates = coordinates;
+              detectors = length coordinates;
+              observables = observables;
+            } }
     {
         Model {
             back: Lines::new(alloc),
@@ -65,8 +69,12 @@ impl<'a, A: Allocator + Copy> Model<'a, A> {
     /// line.
     pub fn in_reverse(lines: Self, coordinates: FlatLists<i64, A>, observables: usize) -> Self
         ensures { result
-            ≡ record
-            { lines = reverse lines.entry.lines; coordinates = coordinates; detectors = length coordinates; observables = observables } }
+            ≡ record {
+              lines = reverse lines.entry.lines;
+              coordinates = coordinates;
+              detectors = length coordinates;
+              observables = observables;
+            } }
     {
         let Model {
             back,

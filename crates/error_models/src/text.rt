@@ -3,7 +3,7 @@ ghost use Rattle.std.specs.Prelude.{◌≡◌, ◌<◌, ◌≤◌, ◌-◌, deci
 ghost use Rattle.std.specs.List.{flat_map};
 ghost use Rattle.std.specs.Fmt.{signed_decimal};
 ghost use Rattle.error_models.specs.ModelText.{targets_text, line_text, more_coordinates_text, coordinates_text, detector_text, observable_text, lines_text, detectors_text, observables_text, model_text};
-ghost use Rattle.streams.specs.Pushed.{Pushes};
+ghost use Rattle.step_model.specs.Pushed.{Pushes};
 ghost use Rattle.step_model.specs.Ends.{Takes, TakesBeginning, write_failures};
 ghost use Rattle.step_model.specs.Faults.{write_fault};
 
@@ -13,8 +13,7 @@ use crate::short_detectors::{DETECTOR_ROOM, SHORT_COORDINATES, detector_before};
 use crate::short_lines::{ROOM, SHORT_TARGETS, targets_before};
 use itoa::Buffer;
 use std::alloc::Allocator;
-use step_model::{Fault, Sink};
-use streams::Pieces;
+use step_model::{Fault, Pieces, Sink};
 
 /// Writes the text of a model. It takes no memory, and fails only where the sink fails; a beginning of the text has
 /// then gone out, and the sink is not called again.

@@ -4,7 +4,7 @@ use Rattle.std.specs.Prelude.{decimal}
 use Rattle.std.proofs.lemmas.Bool.Decides.{leb_tells}
 use Rattle.std.proofs.lemmas.Fmt.{decimal_digit, decimal_step}
 use Rattle.std.proofs.lemmas.List.{length_push, same_from_push, take_more, take_more_set}
-use Rattle.streams.proofs.LastDigits.{last_rises}
+use Rattle.step_model.proofs.LastDigits.{last_rises}
 use Rattle.fault_list.specs.private.KeptTexts.{HasDigits}
 
 pub counts_up : (n len : ℕ) (bytes : List ℕ) → n < 2 ^ 32 → length bytes ≡ 16 → HasDigits n len bytes → get_or bytes (len - 1) 0 < 57 → HasDigits (n + 1) len (set bytes (len - 1) (get_or bytes (len - 1) 0 + 1))

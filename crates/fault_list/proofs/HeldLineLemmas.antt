@@ -2,9 +2,9 @@
 use Rattle.std.proofs.Common.{◌≡◌, ℕ, ◌+◌, List, [], ◌++◌, Option, sym, ap, ◌∙◌, append_assoc, append-nil, arith}
 use Rattle.std.specs.List.{flat_map, range_with_len}
 use Rattle.std.proofs.lemmas.List.Concat.{flat_map-append}
-use Rattle.streams.specs.Held.{Held}
-use Rattle.streams.specs.Pushed.{Pushes}
-use Rattle.streams.proofs.Pushing.{Pushes-nil, Pushes-trans}
+use Rattle.step_model.specs.Held.{Held}
+use Rattle.step_model.specs.Pushed.{Pushes}
+use Rattle.step_model.proofs.Pushing.{Pushes-nil, Pushes-trans}
 use Rattle.fault_list.specs.private.HeldLines.{PushesSome}
 use Rattle.step_model.proofs.RangeLemmas.{range-append}
 

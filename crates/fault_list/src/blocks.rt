@@ -1,7 +1,7 @@
 //! The text of the letters of successive qubits. It goes out in blocks, each written into a buffer from its end towards
 //! its start.
 ghost use Rattle.std.specs.Prelude.{◌≡◌, ◌≤◌, ◌+◌, ◌*◌, ◌∷◌, ◌&&◌, ◌++◌, [], codes, decimal, length, drop, if◌then◌else◌};
-ghost use Rattle.streams.specs.Pushed.{Pushes};
+ghost use Rattle.step_model.specs.Pushed.{Pushes};
 ghost use Rattle.step_model.specs.Listing.{is_I};
 ghost use Rattle.fault_list.specs.FaultLines.{factor_text};
 ghost use Rattle.fault_list.specs.private.FactorTexts.{is_none, joined_on, letter_factors, starred};
@@ -10,8 +10,7 @@ ghost use Rattle.fault_list.specs.private.PutTexts.{PutsBefore};
 use crate::letters::{acts, letter_byte};
 use itoa::write_digits;
 use pauli_word::Letter;
-use step_model::{Sink, Term};
-use streams::Pieces;
+use step_model::{Pieces, Sink, Term};
 
 /// How long a buffer for blocks is.
 pub(crate) const ROOM: usize = 256;

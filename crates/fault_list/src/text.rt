@@ -3,7 +3,7 @@ ghost use Rattle.std.specs.Prelude.{◌≡◌, ◌≤◌, decimal, take, IfErr, 
 ghost use Rattle.step_model.specs.Ends.{Takes, TakesBeginning, write_failures};
 ghost use Rattle.step_model.specs.Faults.{write_fault};
 ghost use Rattle.step_model.specs.Listing.{effect_at};
-ghost use Rattle.streams.specs.Pushed.{Pushes};
+ghost use Rattle.step_model.specs.Pushed.{Pushes};
 ghost use Rattle.programs.specs.Entries.{TellsChances};
 ghost use Rattle.programs.specs.Found.{IsFaultOf};
 ghost use Rattle.fault_list.specs.FaultLines.{record_text, effect_text, fault_line, fault_lines, coins_line, list_text};
@@ -16,8 +16,7 @@ use itoa::Buffer;
 use pauli_word::Letter;
 use programs::{FoundFault, Program, Walk, next_fault};
 use std::alloc::Allocator;
-use step_model::{Fault, Sink};
-use streams::Pieces;
+use step_model::{Fault, Pieces, Sink};
 
 /// Writes the list of a program's faults. It takes no memory, and fails only where the sink fails; a beginning of the
 /// text has then gone out, and the sink is not called again.

@@ -1,6 +1,6 @@
 //! The text of a Pauli word that is kept as terms, letters at qubits, in any order and a qubit more than once.
 ghost use Rattle.std.specs.Prelude.{◌≡◌, ◌<◌, ◌≤◌, ◌+◌, ◌⊎◌, ◌&&◌, All, length};
-ghost use Rattle.streams.specs.Pushed.{Pushes};
+ghost use Rattle.step_model.specs.Pushed.{Pushes};
 ghost use Rattle.step_model.specs.Listing.{word_of_terms};
 ghost use Rattle.step_model.specs.WellFormed.{TermsFit};
 ghost use Rattle.fault_list.specs.FaultLines.{word_text};
@@ -9,8 +9,7 @@ ghost use Rattle.fault_list.specs.private.FactorTexts.{is_none, joined_on, term_
 use crate::blocks::{ROOM, write_letters};
 use crate::letters::gather;
 use pauli_word::Letter;
-use step_model::{Sink, Term};
-use streams::Pieces;
+use step_model::{Pieces, Sink, Term};
 
 /// How many qubits are put in order at once at most. A circuit that is read from a text has no more.
 pub(crate) const SPAN: usize = 4096;

@@ -29,7 +29,8 @@ pub fn read_coins<A: Allocator + Copy>(
 ) -> Result<Vec<bool, A>, Fault>
     ensures ok { IfOk result (λ v. coins_of program.now.listing.collapses text.now ≡ Some v.items) }
     ensures err { IfErr result (λ e. (e ≡ memory_fault)
-        ⊎ ((e ≡ without_line CoinCount) × (coins_of program.now.listing.collapses text.now ≡ None))) }
+        ⊎ ((e ≡ without_line CoinCount)
+        × (coins_of program.now.listing.collapses text.now ≡ None))) }
 {
     let collapses = program.collapse_count() as usize;
     if text.len() != collapses || !are_zeros_and_ones(text) {

@@ -1,7 +1,7 @@
 -- Pushing to a sink that has failed.
 use Rattle.std.proofs.Common.{◌≡◌, ℕ, true, Bool, List, Option, refl, sym, subst}
-use Rattle.streams.specs.Held.{Held}
-use Rattle.streams.specs.Pushed.{Outlet, IsPushed, Pushes}
+use Rattle.step_model.specs.Held.{Held}
+use Rattle.step_model.specs.Pushed.{Outlet, IsPushed, Pushes}
 
 -- nothing changes, whatever is pushed
 pub Pushes-failed : {S : Type 0} {taken : S → Option (List ℕ)} {failures : S → ℕ} {s : S} {held : Held} (bytes : List ℕ)

@@ -1,6 +1,6 @@
 //! Shots drawn, run and written, 64 at a time.
 ghost use Rattle.std.specs.Prelude.{◌≡◌, ◌<◌, ◌≤◌, IfErr, OnOk, OnErr};
-ghost use Rattle.streams.specs.Pushed.{Pushes};
+ghost use Rattle.step_model.specs.Pushed.{Pushes};
 ghost use Rattle.step_model.specs.Ends.{Takes, TakesBeginning, write_failures};
 ghost use Rattle.step_model.specs.Faults.{write_fault};
 ghost use Rattle.frames.specs.Sampled.{lines_from, shot_generator, shots_text};
@@ -13,8 +13,7 @@ use forward_sim::Shots;
 use rand_core::SeedableRng;
 use rand_pcg::Pcg64;
 use std::alloc::Allocator;
-use step_model::{Fault, Sink};
-use streams::Pieces;
+use step_model::{Fault, Pieces, Sink};
 
 /// Writes the lines of the first `shots` shots of a seed. `room` is for a byte of each truth value, and then for a line. It
 /// takes no memory, and fails only where the sink fails; a beginning of the text has then gone out, and the sink is not called

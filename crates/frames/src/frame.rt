@@ -135,7 +135,9 @@ impl<A: Allocator + Copy> Frame<A> {
     fn clear(&mut self, q: usize, reset: bool)
         requires { q < length self.old.word }
         ensures { self.new
-            ≡ record self.old { word = if reset then slice_set self.old.word q I else self.old.word } }
+            ≡ record self.old {
+              word = if reset then slice_set self.old.word q I else self.old.word;
+            } }
     {
         if reset {
             self.word.set_letter(q, Letter::I);

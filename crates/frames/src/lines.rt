@@ -2,13 +2,12 @@
 // gone over in a fraction of the time of words.
 ghost use Rattle.std.specs.Prelude.{◌≡◌, ◌≢◌, ◌+◌, ◌-◌, ◌*◌, ◌%◌, ◌<◌, ◌≤◌, ℕ, length};
 ghost use Rattle.bit_rows.specs.Lanes.{lane, lane_bit};
-ghost use Rattle.streams.specs.Pushed.{Pushes};
+ghost use Rattle.step_model.specs.Pushed.{Pushes};
 ghost use Rattle.frames.specs.private.LaneLines.{lane_lines};
 ghost use Rattle.frames.specs.private.Octets.{HoldLanes};
 ghost use Rattle.frames.specs.Lines.{digit_of, line_of};
 
-use step_model::Sink;
-use streams::Pieces;
+use step_model::{Pieces, Sink};
 
 // Pushes the lines of the first shots. `room` is for a byte of each word, and then for one line.
 pub(crate) fn push_lines<W: Sink>(

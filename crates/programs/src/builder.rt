@@ -74,8 +74,11 @@ impl<A: Allocator + Copy> CircuitBuilder<A> {
         requires room { length self.old.outer < 32 }
         ensures ok { OnOk result
             (self.new
-            ≡ record
-            { outer = self.old.outer ++ record { before = self.old.here; turns = turns } ∷ []; here = [] }) }
+            ≡ record {
+              outer = self.old.outer
+                  ++ record { before = self.old.here; turns = turns } ∷ [];
+              here = [];
+            }) }
         ensures err { OnErr result (self.new ≡ self.old) }
     {
         self.nodes.open()?;

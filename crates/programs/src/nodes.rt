@@ -90,7 +90,8 @@ impl<A: Allocator + Copy> Nodes<A> {
     #[inline(always)]
     pub(crate) fn fault(&self, index: usize) -> Option<u32>
         requires { is_step (slice_get self.now index) ≡ true }
-        ensures fault { IfSome result (λ entry. slice_get self.now index ≡ Some (Do (Fault entry))) }
+        ensures fault { IfSome result (λ entry. slice_get self.now index
+            ≡ Some (Do (Fault entry))) }
         ensures none { result ≡ None → is_fault_node (slice_get self.now index) ≡ false }
     {
         fault_of(self.kept[index])

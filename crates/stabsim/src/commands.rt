@@ -3,7 +3,7 @@ use command_line::{Asked, asked_by};
 use engine::{Order, exit_status, serve};
 use std::rt::Env;
 use std::{env, io};
-use streams::{ReaderSource, WriterSink};
+use step_model::{ReaderSource, WriterSink};
 
 const DONE: u8 = 0;
 

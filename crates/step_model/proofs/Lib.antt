@@ -8,3 +8,7 @@ pub mod SensitivityLengths
 pub mod StateIsGroup
 pub mod StepNumbers
 pub mod HitSteps
+pub mod Finishing
+pub mod Items
+pub mod LastDigits
+pub mod Pushing

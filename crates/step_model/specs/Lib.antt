@@ -3,10 +3,12 @@ pub mod Ends
 pub mod ErrorModels
 pub mod Faults
 pub mod Frames
+pub mod Held
 pub mod HitModels
 pub mod Hits
 pub mod Listing
 pub mod Probabilities
+pub mod Pushed
 pub mod Runs
 pub mod Sensitivities
 pub mod TargetSets

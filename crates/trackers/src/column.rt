@@ -238,7 +238,8 @@ impl<S: TargetSet> Column<S> {
         requires spare { length (S.bits spare.old) ≡ length self.now }
         ensures ok { OnOk result
             (S.bits set.new
-            ≡ xor_where z (xor_where x (S.bits set.old) (map x_bit self.now)) (map z_bit self.now)) }
+            ≡ xor_where z (xor_where x (S.bits set.old) (map x_bit self.now))
+            (map z_bit self.now)) }
         ensures len { length (S.bits set.new) ≡ length (S.bits set.old) }
         ensures spare { length (S.bits spare.new) ≡ length (S.bits spare.old) }
     {

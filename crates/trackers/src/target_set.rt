@@ -58,7 +58,8 @@ pub trait TargetSet: Drop {
     fn sum_few(&self, other: &Self, sum: &mut [u32; FEW]) -> Option<usize>
         requires { length (bits self.now) ≡ length (bits other.now) }
         ensures within { IfSome result (λ len. len ≤ FEW) }
-        ensures sum { IfSome result (λ len. reverse (take len sum.new) ≡ members (xor_rows (bits self.now) (bits other.now))) };
+        ensures sum { IfSome result (λ len. reverse (take len sum.new)
+            ≡ members (xor_rows (bits self.now) (bits other.now))) };
 
     /// The same for the targets that are in an odd number of four sets.
     fn sum_few_of_four(
@@ -72,7 +73,9 @@ pub trait TargetSet: Drop {
         requires third { length (bits self.now) ≡ length (bits third.now) }
         requires fourth { length (bits self.now) ≡ length (bits fourth.now) }
         ensures within { IfSome result (λ len. len ≤ FEW) }
-        ensures sum { IfSome result (λ len. reverse (take len sum.new) ≡ members (xor_rows (xor_rows (bits self.now) (bits second.now)) (xor_rows (bits third.now) (bits fourth.now)))) };
+        ensures sum { IfSome result (λ len. reverse (take len sum.new)
+            ≡ members (xor_rows (xor_rows (bits self.now) (bits second.now))
+            (xor_rows (bits third.now) (bits fourth.now)))) };
 }
 
 impl<A: Allocator + Copy> TargetSet for BitRow<A> {

@@ -24,7 +24,8 @@ pub trait Tracker: Sized {
     /// have 2^32 targets or more.
     fn keep<B: Allocator + Copy>(&self, alloc: B) -> Result<FlatLists<u32, B>, AllocError>
         ensures fit { IfOk result (Fit (tracked self.now)) }
-        ensures words { IfOk result (λ lists. restored lists (tracked self.now) ≡ tracked self.now) };
+        ensures words { IfOk result (λ lists. restored lists (tracked self.now)
+            ≡ tracked self.now) };
 
     /// Puts the words that such lists stand for in place of those that it has.
     fn restore<B: Allocator + Copy>(&mut self, lists: &FlatLists<u32, B>) -> Result<(), AllocError>
@@ -35,7 +36,8 @@ pub trait Tracker: Sized {
     fn undo1(&mut self, gate: Gate, q: usize) -> Result<(), AllocError>
         requires arity { arity_of gate ≡ 1 }
         requires in_range { q < (tracked self.old).qubits }
-        ensures { OnOk result (tracked self.new ≡ each_word (undone_one gate q) (tracked self.old)) };
+        ensures { OnOk result (tracked self.new
+            ≡ each_word (undone_one gate q) (tracked self.old)) };
 
     /// Takes each word to its preimage under a two-qubit gate, the sign left out.
     fn undo2(&mut self, gate: Gate, a: usize, b: usize) -> Result<(), AllocError>
@@ -43,7 +45,8 @@ pub trait Tracker: Sized {
         requires first_in_range { a < (tracked self.old).qubits }
         requires second_in_range { b < (tracked self.old).qubits }
         requires different { a ≢ b }
-        ensures { OnOk result (tracked self.new ≡ each_word (undone_two gate a b) (tracked self.old)) };
+        ensures { OnOk result (tracked self.new
+            ≡ each_word (undone_two gate a b) (tracked self.old)) };
 
     /// Multiplies the words of these targets, which ascend, by a letter at a qubit.
     fn add(&mut self, targets: &[u32], letter: Letter, q: usize) -> Result<(), AllocError>
@@ -73,7 +76,8 @@ pub trait Tracker: Sized {
     /// are kept as such a list. A tracker need not keep them so.
     fn kept_hit(&self, terms: &[Term]) -> Option<&[u32]>
         requires { All (λ term. term.qubit < (tracked self.now).qubits) terms.now }
-        ensures { IfSome result (λ hit. reverse hit.now ≡ anticommuting terms.now (tracked self.now)) };
+        ensures { IfSome result (λ hit. reverse hit.now
+            ≡ anticommuting terms.now (tracked self.now)) };
 
     /// Puts the targets whose words anticommute with the product of these letters at qubits at the start of `hit`, the
     /// greatest first, and answers how many these are, where it does: a tracker need not. It is for products of two letters
@@ -81,5 +85,6 @@ pub trait Tracker: Sized {
     fn few_hit(&self, terms: &[Term], hit: &mut [u32; FEW]) -> Option<usize>
         requires { All (λ term. term.qubit < (tracked self.now).qubits) terms.now }
         ensures within { IfSome result (λ len. len ≤ FEW) }
-        ensures hit { IfSome result (λ len. reverse (take len hit.new) ≡ anticommuting terms.now (tracked self.now)) };
+        ensures hit { IfSome result (λ len. reverse (take len hit.new)
+            ≡ anticommuting terms.now (tracked self.now)) };
 }

@@ -55,7 +55,8 @@ fn push_detector<A: Allocator + Copy>(
 ) -> Result<(), AllocError>
     requires { records < 2 ^ 32 }
     ensures { OnOk result
-        (detectors.new ≡ detectors.old ++ operation_detectors records operation (list_in targets.entry)) }
+        (detectors.new
+        ≡ detectors.old ++ operation_detectors records operation (list_in targets.entry)) }
 {
     match operation {
         Operation::DetectorDeclaration => {

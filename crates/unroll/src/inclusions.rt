@@ -34,7 +34,8 @@ fn include_records<A: Allocator + Copy>(
     requires there { observable < length lists.old }
     requires few { records < 2 ^ 32 }
     ensures { OnOk result
-        (lists.new ≡ with_more observable (records_named records (list_in targets.entry)) lists.old) }
+        (lists.new ≡ with_more observable
+        (records_named records (list_in targets.entry)) lists.old) }
 {
     let mut rest = targets;
     while let Some((target, after)) = rest.split_first() {

@@ -221,7 +221,8 @@ fn push_products<A: Allocator + Copy>(
 ) -> Result<(), AllocError>
     requires { first + length (products_of (list_in targets)) < 2 ^ 32 }
     ensures { OnOk result
-        (Adds (product_steps flip first (products_of (list_in targets.entry))) builder.old builder.new) }
+        (Adds (product_steps flip first
+        (products_of (list_in targets.entry))) builder.old builder.new) }
 {
     let mut product = first;
     let mut inverted = false;
@@ -255,7 +256,8 @@ pub(crate) fn push_steps<A: Allocator + Copy>(
     requires small { All IsSmall (list_in targets) }
     requires products { products + target_count operation (list_in targets) < 2 ^ 32 }
     ensures { OnOk result
-        (Adds (plain_steps operation products flip (list_in targets.entry)) builder.old builder.new) }
+        (Adds (plain_steps operation products flip
+        (list_in targets.entry)) builder.old builder.new) }
 {
     let single = match operation {
         // Gates have a loop of their own, since most targets are theirs.

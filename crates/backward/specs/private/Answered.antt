@@ -1,8 +1,8 @@
 -- What writing the error model of a program answers, and what it did to its sink. (This project's own.)
 use Rattle.std.specs.Prelude.{◌≡◌, ◌⊎◌, ℕ, List, Option, Result, IfOk, IfErr, IfNone, IfSome, OnErr}
 use Rattle.error_models.specs.ModelText.{model_text}
-use Rattle.streams.specs.Held.{Held}
-use Rattle.streams.specs.Pushed.{Pushes}
+use Rattle.step_model.specs.Held.{Held}
+use Rattle.step_model.specs.Pushed.{Pushes}
 use Rattle.step_model.specs.declared.fault.Fault.{Fault}
 use Rattle.step_model.specs.declared.step.Place.{Place}
 use Rattle.step_model.specs.Ends.{Takes, TakesSome, write_failures}

@@ -5,8 +5,8 @@ use Rattle.std.specs.List.{AllPairs}
 use Rattle.step_model.specs.Listing.{Listing}
 use Rattle.step_model.specs.Targets.{targets_of}
 use Rattle.programs.specs.Kept.{KeptProgram}
-use Rattle.streams.specs.Held.{Held}
-use Rattle.streams.specs.Pushed.{Pushes}
+use Rattle.step_model.specs.Held.{Held}
+use Rattle.step_model.specs.Pushed.{Pushes}
 use Rattle.backward.specs.declared.found.Found.{Found}
 use Rattle.backward.specs.declared.point.KeptPoint.{KeptPoint}
 use Rattle.backward.specs.declared.point.Point.{Point}

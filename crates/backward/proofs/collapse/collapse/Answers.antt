@@ -1,3 +1,4 @@
+-- The step is judged by the words after it, and taken back; then each part of what a pass keeps is as the definition of a step has it.
 use Rattle.std.proofs.Common.{◌≡◌, ◌+◌, ◌-◌, ◌<◌, Bool, List, length, drop, refl, ap, subst, sym, ◌∙◌, arith}
 use Rattle.std.specs.Prelude.{All, IfSome}
 use Rattle.std.proofs.lemmas.Result.{err_from_is_err_and}

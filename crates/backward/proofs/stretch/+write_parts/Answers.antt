@@ -1,6 +1,6 @@
 -- Each turn takes the last point, whose stretch is before what the others write: `last` says so, and `cut` where it is cut.
 use Rattle.std.proofs.Common.{◌++◌, refl, rules, ap, subst, sym, ◌∙◌, arith}
-use Rattle.streams.proofs.Pushing.{Pushes-nil, Pushes-trans}
+use Rattle.step_model.proofs.Pushing.{Pushes-nil, Pushes-trans}
 use Rattle.backward.specs.private.Points.{ArePoints, first_place}
 use Rattle.backward.specs.private.Stretches.{text_between}
 use Rattle.backward.proofs.PassLines.{text_between-parts}

@@ -1,8 +1,8 @@
 use Rattle.std.proofs.Common.{◌≡◌, length, ap, arith}
 use Rattle.std.specs.List.{flat_map, range_with_len}
 use Rattle.error_models.specs.ModelText.{observable_text}
-use Rattle.streams.proofs.Items.{Pushes-number}
-use Rattle.streams.proofs.Pushing.{Pushes-nil, Pushes-trans}
+use Rattle.step_model.proofs.Items.{Pushes-number}
+use Rattle.step_model.proofs.Pushing.{Pushes-nil, Pushes-trans}
 use Rattle.backward.proofs.StretchLemmas.{Pushes-as}
 use Rattle.backward.proofs.writing.push_declarations.Goals as goal
 

@@ -3,7 +3,7 @@ use Rattle.std.specs.List.{flat_map, range_with_len}
 use Rattle.std.proofs.lemmas.Grind.{flat_map-append}
 use Rattle.step_model.proofs.RangeLemmas.{range-append}
 use Rattle.error_models.specs.ModelText.{detector_text}
-use Rattle.streams.proofs.Pushing.{Pushes-trans}
+use Rattle.step_model.proofs.Pushing.{Pushes-trans}
 use Rattle.backward.proofs.writing.push_detectors.Goals as goal
 
 pub loop-done-preserved : goal.loop-done-preserved

@@ -1,4 +1,4 @@
-use Rattle.streams.specs.Pushed.{Pushes}
+use Rattle.step_model.specs.Pushed.{Pushes}
 use Rattle.std.proofs.Common.{◌≡◌, ◌≤◌, ◌-◌, [], get_or, length}
 use Rattle.std.specs.List.{flat_map, range_with_len}
 use Rattle.error_models.specs.HeldText.{no_text}

@@ -3,7 +3,7 @@ use Rattle.std.specs.Prelude.{IfNone, IfSome}
 use Rattle.std.proofs.lemmas.Result.{err_from_is_err_and}
 use Rattle.error_models.specs.ModelText.{detectors_text, observables_text}
 use Rattle.step_model.specs.HitModels.{model_of}
-use Rattle.streams.proofs.Pushing.{Pushes-nil, Pushes-trans}
+use Rattle.step_model.proofs.Pushing.{Pushes-nil, Pushes-trans}
 use Rattle.backward.specs.Places.{IsLowestRandom, NoneIsRandom}
 use Rattle.backward.specs.private.Passes.{records_before}
 use Rattle.backward.specs.private.Points.{ArePoints, IsFor, first_place}

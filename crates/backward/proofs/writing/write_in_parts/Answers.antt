@@ -3,7 +3,7 @@ use Rattle.std.specs.Prelude.{IfNone, IfSome}
 use Rattle.std.proofs.lemmas.Result.{err_from_is_err_and}
 use Rattle.step_model.specs.HitModels.{model_of}
 use Rattle.error_models.specs.ModelText.{model_text}
-use Rattle.streams.specs.Pushed.{Pushes}
+use Rattle.step_model.specs.Pushed.{Pushes}
 use Rattle.backward.specs.Places.{IsLowestRandom, NoneIsRandom}
 use Rattle.backward.proofs.AnswerLemmas.{answers_all, answers_broken, answers_out_of_memory, answers_some}
 use Rattle.backward.proofs.writing.write_in_parts.Goals as goal

@@ -1,6 +1,6 @@
 use Rattle.std.proofs.Common.{◌≤◌, length, drop}
 use Rattle.error_models.specs.HeldText.{texts_of}
-use Rattle.streams.specs.Pushed.{Pushes}
+use Rattle.step_model.specs.Pushed.{Pushes}
 use Rattle.error_models.proofs.held_text.push_full.Given as goal
 
 -- the blocks from this one on are pushed

@@ -1,4 +1,4 @@
-use Rattle.streams.proofs.Finishing.{all-finished, beginning-finished, count-finished}
+use Rattle.step_model.proofs.Finishing.{all-finished, beginning-finished, count-finished}
 use Rattle.error_models.proofs.text.write.Goals as goal
 
 pub returns-clause-all : goal.returns-clause-all

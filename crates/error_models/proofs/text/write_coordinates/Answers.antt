@@ -1,4 +1,4 @@
-use Rattle.streams.proofs.Pushing.{Pushes-trans}
+use Rattle.step_model.proofs.Pushing.{Pushes-trans}
 use Rattle.std.proofs.Common.{◌≡◌, get_or, arith, pos}
 use Rattle.std.proofs.lemmas.Int.{to_z-of_z}
 use Rattle.error_models.proofs.TextLemmas.{coordinates_text-parts}

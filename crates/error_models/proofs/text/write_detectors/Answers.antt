@@ -1,6 +1,6 @@
 use Rattle.std.proofs.Common.{[], get_or}
 use Rattle.error_models.specs.ModelText.{detector_text}
-use Rattle.streams.proofs.Items.{Pushes-number}
+use Rattle.step_model.proofs.Items.{Pushes-number}
 use Rattle.error_models.proofs.text.write_detectors.Goals as goal
 
 pub loop-detector-preserved : goal.loop-detector-preserved

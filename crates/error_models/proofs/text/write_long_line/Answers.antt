@@ -1,4 +1,4 @@
-use Rattle.streams.proofs.Pushing.{Pushes-trans}
+use Rattle.step_model.proofs.Pushing.{Pushes-trans}
 use Rattle.error_models.proofs.text.write_long_line.Goals as goal
 
 pub returns : goal.returns

@@ -4,8 +4,8 @@ use Rattle.std.specs.Fmt.{signed_decimal}
 use Rattle.std.proofs.lemmas.Int.{to_z-of_z}
 use mir.Val.{of_z, to_z}
 use mir.Syntax.{w64}
-use Rattle.streams.proofs.Items.{Pushes-item}
-use Rattle.streams.proofs.Pushing.{Pushes-trans}
+use Rattle.step_model.proofs.Items.{Pushes-item}
+use Rattle.step_model.proofs.Pushing.{Pushes-trans}
 use Rattle.error_models.proofs.text.write_more_coordinates.Goals as goal
 
 pub loop-coordinate-preserved : goal.loop-coordinate-preserved

@@ -1,4 +1,4 @@
-use Rattle.streams.specs.Pushed.{Pushes}
+use Rattle.step_model.specs.Pushed.{Pushes}
 use Rattle.std.proofs.Common.{take}
 use Rattle.error_models.specs.ModelText.{more_coordinates_text}
 use Rattle.error_models.proofs.text.write_more_coordinates.Given as goal

@@ -1,5 +1,5 @@
 use Rattle.error_models.specs.ModelText.{observable_text}
-use Rattle.streams.proofs.Items.{Pushes-number}
+use Rattle.step_model.proofs.Items.{Pushes-number}
 use Rattle.error_models.proofs.text.write_observables.Goals as goal
 
 pub loop-observable-preserved : goal.loop-observable-preserved

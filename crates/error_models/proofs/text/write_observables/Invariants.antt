@@ -1,4 +1,4 @@
-use Rattle.streams.specs.Pushed.{Pushes}
+use Rattle.step_model.specs.Pushed.{Pushes}
 use Rattle.std.specs.List.{flat_map, range_with_len}
 use Rattle.error_models.specs.ModelText.{observable_text}
 use Rattle.error_models.proofs.text.write_observables.Given as goal

@@ -1,4 +1,4 @@
-use Rattle.streams.specs.Pushed.{Pushes}
+use Rattle.step_model.specs.Pushed.{Pushes}
 use Rattle.std.proofs.Common.{◌≤◌, ◌-◌, length, take}
 use Rattle.error_models.specs.ModelText.{targets_text}
 use Rattle.error_models.proofs.text.write_targets.Given as goal

@@ -1,7 +1,7 @@
 -- What is written in the buffer goes out, without its first star where nothing stands before it.
 use Rattle.std.proofs.Common.{◌≡◌, ◌<◌, length, drop, sym, ap, ◌∙◌, arith, rules, length-drop}
 use Rattle.std.proofs.lemmas.List.{drop_all}
-use Rattle.streams.proofs.Pushing.{Pushes-nil}
+use Rattle.step_model.proofs.Pushing.{Pushes-nil}
 use Rattle.fault_list.specs.private.FactorTexts.{joined_on, letter_factors, starred}
 use Rattle.fault_list.proofs.BlockLemmas.{text_written, rest_of, after_star}
 use Rattle.fault_list.proofs.FactorTextLemmas.{nothing_joined, some_where_text}

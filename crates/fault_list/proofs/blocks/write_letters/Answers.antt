@@ -1,7 +1,7 @@
 -- Each block goes out after those before it.
 use Rattle.std.proofs.Common.{◌≡◌, ◌+◌, ◌-◌, ◌++◌, take, drop, ap, ◌∙◌, arith}
 use Rattle.std.specs.Prelude.{◌&&◌}
-use Rattle.streams.proofs.Pushing.{Pushes-trans}
+use Rattle.step_model.proofs.Pushing.{Pushes-trans}
 use Rattle.fault_list.specs.private.FactorTexts.{is_none, joined_on, letter_factors}
 use Rattle.fault_list.proofs.BlockLemmas.{letter_factors-take}
 use Rattle.fault_list.proofs.FactorTextLemmas.{joined_on-append, none-append}

@@ -1,6 +1,6 @@
 use Rattle.std.proofs.Common.{◌≡◌, ◌≤◌, ◌-◌, length, take}
 use Rattle.std.specs.Prelude.{◌&&◌}
-use Rattle.streams.specs.Pushed.{Pushes}
+use Rattle.step_model.specs.Pushed.{Pushes}
 use Rattle.fault_list.specs.private.FactorTexts.{is_none, joined_on, letter_factors}
 use Rattle.fault_list.proofs.blocks.write_letters.Given as goal
 

@@ -1,5 +1,5 @@
-use Rattle.streams.proofs.Pushing.{Pushes-trans}
-use Rattle.streams.proofs.Finishing.{all-finished, beginning-finished, count-finished}
+use Rattle.step_model.proofs.Pushing.{Pushes-trans}
+use Rattle.step_model.proofs.Finishing.{all-finished, beginning-finished, count-finished}
 use Rattle.fault_list.proofs.text.write.Goals as goal
 
 pub returns-clause-all : goal.returns-clause-all

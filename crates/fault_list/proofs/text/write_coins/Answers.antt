@@ -1,4 +1,4 @@
-use Rattle.streams.proofs.Pushing.{Pushes-trans}
+use Rattle.step_model.proofs.Pushing.{Pushes-trans}
 use Rattle.fault_list.proofs.text.write_coins.Goals as goal
 
 pub returns : goal.returns

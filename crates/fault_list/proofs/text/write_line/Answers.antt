@@ -1,5 +1,5 @@
 use Rattle.std.proofs.Common.{◌++◌, refl, ap}
-use Rattle.streams.proofs.Pushing.{Pushes-trans}
+use Rattle.step_model.proofs.Pushing.{Pushes-trans}
 use Rattle.fault_list.specs.FaultLines.{fault_line}
 use Rattle.fault_list.proofs.HeldLineLemmas.{held_too, all_gone}
 use Rattle.fault_list.proofs.text.write_line.Goals as goal

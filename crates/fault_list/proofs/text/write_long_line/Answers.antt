@@ -1,5 +1,5 @@
 use Rattle.std.proofs.Common.{◌∙◌}
-use Rattle.streams.proofs.Pushing.{Pushes-trans}
+use Rattle.step_model.proofs.Pushing.{Pushes-trans}
 use Rattle.fault_list.proofs.text.write_long_line.Goals as goal
 
 pub returns-clause-pushed : goal.returns-clause-pushed

@@ -1,7 +1,7 @@
 -- The factors go out span by span.
 use Rattle.std.proofs.Common.{◌≡◌, ◌++◌, true, length, take, sym, ap, ap₂, ◌∙◌, rules}
 use Rattle.std.specs.Prelude.{◌&&◌}
-use Rattle.streams.proofs.Pushing.{Pushes-trans, Pushes-nil}
+use Rattle.step_model.proofs.Pushing.{Pushes-trans, Pushes-nil}
 use Rattle.step_model.specs.Listing.{word_of_terms}
 use Rattle.fault_list.specs.private.FactorTexts.{is_none, joined, joined_on, term_factors}
 use Rattle.fault_list.proofs.FactorLemmas.{factors_below}

@@ -1,5 +1,5 @@
 use Rattle.std.proofs.Common.{◌≡◌, ◌≤◌, ◌-◌}
-use Rattle.streams.specs.Pushed.{Pushes}
+use Rattle.step_model.specs.Pushed.{Pushes}
 use Rattle.step_model.specs.Listing.{word_of_terms}
 use Rattle.fault_list.specs.private.FactorTexts.{is_none, joined}
 use Rattle.fault_list.proofs.FactorLemmas.{factors_below}

@@ -6,7 +6,7 @@ use Rattle.forward_sim.specs.Drawn.{bounds_of, after_shots}
 use Rattle.forward_sim.specs.Shots.{AreDrawn}
 use Rattle.frames.specs.Batches.{DontCount}
 use Rattle.bit_rows.specs.Lanes.{lane}
-use Rattle.streams.specs.Pushed.{Pushes}
+use Rattle.step_model.specs.Pushed.{Pushes}
 use Rattle.frames.specs.private.LaneLines.{lane_lines}
 use Rattle.frames.specs.Sampled.{lines_from}
 use Rattle.frames.specs.Shown.{shown_line}

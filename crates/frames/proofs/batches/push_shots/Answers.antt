@@ -1,7 +1,7 @@
 -- Batch after batch.
 use Rattle.std.proofs.Common.{◌≡◌, ◌+◌, ◌-◌, ◌++◌, length, refl, sym, ap, ap₂, subst, ◌∙◌, arith}
-use Rattle.streams.specs.Pushed.{Pushes}
-use Rattle.streams.proofs.Pushing.{Pushes-nil, Pushes-trans}
+use Rattle.step_model.specs.Pushed.{Pushes}
+use Rattle.step_model.proofs.Pushing.{Pushes-nil, Pushes-trans}
 use Rattle.forward_sim.proofs.SideLemmas.{none_taken}
 use Rattle.frames.specs.Sampled.{lines_from, shot_generator}
 use Rattle.frames.specs.Shown.{shown_line}

@@ -1,5 +1,5 @@
 use Rattle.std.proofs.Common.{◌≡◌, ◌-◌, ◌≤◌}
-use Rattle.streams.specs.Pushed.{Pushes}
+use Rattle.step_model.specs.Pushed.{Pushes}
 use Rattle.frames.specs.Sampled.{lines_from, shot_generator}
 use Rattle.frames.specs.Shown.{shown_line}
 use Rattle.frames.specs.private.ShownRuns.{FitTogether}

@@ -1,7 +1,7 @@
 -- Line by line.
 use Rattle.std.proofs.Common.{◌≡◌, ◌+◌, ◌-◌, ◌%◌, refl, sym, ap, subst, ◌∙◌, arith}
-use Rattle.streams.proofs.Items.{Pushes-number}
-use Rattle.streams.proofs.Pushing.{Pushes-nil}
+use Rattle.step_model.proofs.Items.{Pushes-number}
+use Rattle.step_model.proofs.Pushing.{Pushes-nil}
 use Rattle.frames.specs.Lines.{line_of}
 use Rattle.frames.specs.private.LaneLines.{lane_line}
 use Rattle.frames.specs.private.Octets.{HoldLanes}

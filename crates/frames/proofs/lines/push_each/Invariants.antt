@@ -1,5 +1,5 @@
 use Rattle.std.proofs.Common.{◌≡◌, ◌≢◌, ◌+◌, ◌-◌, ◌%◌, length}
-use Rattle.streams.specs.Pushed.{Pushes}
+use Rattle.step_model.specs.Pushed.{Pushes}
 use Rattle.frames.specs.private.LaneLines.{lane_lines}
 use Rattle.frames.specs.private.Octets.{HoldLanes}
 use Rattle.frames.proofs.lines.push_each.Given as goal

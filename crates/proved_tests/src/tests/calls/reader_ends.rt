@@ -3,8 +3,7 @@ use Event::{Fails, Moves};
 use std::alloc::Global;
 use std::io::ErrorKind;
 use std::process::Abort;
-use step_model::{Fault, Sink, Source, read_all, write_all};
-use streams::{ReaderSource, WriterSink};
+use step_model::{Fault, ReaderSource, Sink, Source, WriterSink, read_all, write_all};
 use test_support::{Device, Event, Plan};
 
 const INTERRUPTED: Event = Fails(ErrorKind::Interrupted);

@@ -5,8 +5,7 @@ use programs::Program;
 use std::alloc::{AllocError, Global};
 use std::io::ErrorKind;
 use std::test::Fail;
-use step_model::{Fault, Place};
-use streams::WriterSink;
+use step_model::{Fault, Place, WriterSink};
 use test_support::{Device, Event, Plan};
 use unroll::read_program;
 

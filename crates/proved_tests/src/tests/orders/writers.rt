@@ -2,8 +2,7 @@
 use super::rows::{Row, rows};
 use engine::{Status, serve};
 use std::alloc::Global;
-use step_model::{Fault, MemorySource};
-use streams::WriterSink;
+use step_model::{Fault, MemorySource, WriterSink};
 use test_support::{Device, Event, Plan};
 
 const TAKES_NONE: &[Event] = &[Event::Moves(0)];

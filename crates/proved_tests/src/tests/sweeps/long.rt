@@ -4,8 +4,7 @@ ghost use Rattle.std.specs.Prelude.{◌≡◌, ◌<◌, length};
 use super::growths::{Memory, Ration};
 use error_models::LinesText;
 use std::alloc::{AllocError, Global};
-use step_model::{Fault, MemorySink, read_all};
-use streams::Pieces;
+use step_model::{Fault, MemorySink, Pieces, read_all};
 use test_support::SlowSource;
 
 /// Puts a line of 20 bytes, and two of 68 with many targets, which go in parts.

@@ -1,3 +1,4 @@
+-- The gate takes the images of the letters at both qubits; the rows are put together from these products, and the others stay.
 use Rattle.std.proofs.Common.{◌<◌, length, drop, get_or, set, ap, ap₂, sym, subst, ◌∙◌, get_or-set_other}
 use Rattle.std.proofs.lemmas.List.{get_or_default}
 use Rattle.pauli_word.specs.declared.letter.Letter.TheVariants.{I, X, Z}

@@ -1,3 +1,4 @@
+-- The columns are split between the two places, whichever comes first; both columns change, and the others stay where they are.
 use Rattle.std.proofs.Common.{◌<◌, length, sym, ◌∙◌, arith}
 use Rattle.std.proofs.lemmas.List.{set_comm}
 use Rattle.trackers.proofs.PairLemmas.{both_ok, fits_none, made, parts_of, split_inside}

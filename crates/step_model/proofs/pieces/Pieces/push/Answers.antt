@@ -1,6 +1,6 @@
 use Rattle.std.proofs.Common.{◌≡◌}
-use Rattle.streams.proofs.Pushing.{Pushes-trans}
-use Rattle.streams.proofs.pieces.Pieces.push.Goals as goal
+use Rattle.step_model.proofs.Pushing.{Pushes-trans}
+use Rattle.step_model.proofs.pieces.Pieces.push.Goals as goal
 
 pub returns : goal.returns
 returns g c =

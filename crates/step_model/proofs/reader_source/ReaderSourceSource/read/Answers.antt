@@ -2,7 +2,7 @@
 use Rattle.std.proofs.Common.{◌≡◌, ◌++◌, ℕ, List, Option, None, Some, length, take, drop, sym, ap, ◌∙◌, arith, length-append}
 use Rattle.std.proofs.lemmas.List.{length-drop, length-take, length-take-le, take-append-le, take_at}
 use Rattle.std.specs.Io.KnownBytes.{Consumes, Keeps}
-use Rattle.streams.proofs.reader_source.ReaderSourceSource.read.Goals as goal
+use Rattle.step_model.proofs.reader_source.ReaderSourceSource.read.Goals as goal
 
 consumed : (old kept new : Option (List ℕ)) (bytes : List ℕ) → Keeps old kept → Consumes kept new bytes → Consumes old new bytes
 consumed None kept new bytes k h = tt

@@ -4,7 +4,7 @@
 -- std::io::BufWriter, with the failure kept until the end.)
 use Rattle.std.specs.Prelude.{◌≡◌, ℕ, Bool, true, false, List, ◌++◌, Option}
 use Rattle.step_model.specs.Ends.{Takes, TakesBeginning, next_count}
-use Rattle.streams.specs.Held.{Held}
+use Rattle.step_model.specs.Held.{Held}
 
 -- a sink's bytes, where they are known, and its failures, with what is held back for it
 pub record Outlet : Type 0 where

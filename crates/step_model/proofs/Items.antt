@@ -3,9 +3,9 @@ use Rattle.std.proofs.Common.{◌≡◌, ℕ, ◌+◌, ◌<◌, List, [], ◌∷
 use Rattle.std.specs.List.{flat_map, range_with_len}
 use Rattle.std.proofs.lemmas.List.{take_more, flat_map_more, map-id}
 use Rattle.std.proofs.lemmas.List.FromFn.{map-range_with_len_more}
-use Rattle.streams.specs.Held.{Held}
-use Rattle.streams.specs.Pushed.{Pushes}
-use Rattle.streams.proofs.Pushing.{Pushes-trans}
+use Rattle.step_model.specs.Held.{Held}
+use Rattle.step_model.specs.Pushed.{Pushes}
+use Rattle.step_model.proofs.Pushing.{Pushes-trans}
 
 -- the texts of some items and of one more
 flat_map-one_more : {X : Type 0} → (f : X → List ℕ) (xs : List X) (x : X) → flat_map f xs ++ f x ≡ flat_map f (xs ++ x ∷ [])

@@ -4,8 +4,8 @@ use Rattle.std.proofs.Math.Seq.{take-append-add}
 use Rattle.std.proofs.lemmas.List.{take-append-le}
 use Rattle.step_model.specs.Ends.{TakesBeginning, next_count}
 use Rattle.step_model.proofs.EndsLemmas.{Takes-nil, Takes-trans}
-use Rattle.streams.specs.Pushed.{Outlet, Holds, IsPushed, Pushes}
-use Rattle.streams.specs.Held.{Held}
+use Rattle.step_model.specs.Pushed.{Outlet, Holds, IsPushed, Pushes}
+use Rattle.step_model.specs.Held.{Held}
 
 -- nothing was pushed
 pub IsPushed-nil : (failed : Bool) (o : Outlet) → IsPushed failed failed o o []

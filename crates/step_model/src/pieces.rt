@@ -2,10 +2,11 @@
 ghost use Rattle.std.specs.Prelude.{◌≡◌, if◌then◌else◌, [], ◌++◌, false, true, Err, OnOk, OnErr, IfErr};
 ghost use Rattle.step_model.specs.Ends.{Takes, TakesBeginning, write_failures};
 ghost use Rattle.step_model.specs.Faults.{write_fault};
-ghost use Rattle.streams.specs.Pushed.{Pushes};
+ghost use Rattle.step_model.specs.Pushed.{Pushes};
 
+use crate::ends::{Sink, write_all};
+use crate::fault::{Cause, Fault};
 use std::marker::Model;
-use step_model::{Cause, Fault, Sink, write_all};
 
 /// How many bytes are held back at most. The buffer is a local variable of its users, so it is small.
 const PIECE: usize = 16384;
@@ -21,7 +22,7 @@ pub struct Pieces {
 
 impl Model for Pieces {
     ghost use Rattle.std.specs.Prelude.{◌≤◌, take};
-    ghost use Rattle.streams.specs.Held.{Held};
+    ghost use Rattle.step_model.specs.Held.{Held};
 
     ghost Value = { Held };
 

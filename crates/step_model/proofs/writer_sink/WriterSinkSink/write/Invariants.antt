@@ -1,6 +1,6 @@
 use Rattle.std.proofs.Common.{◌≡◌}
 use Rattle.std.specs.Io.KnownBytes.{Keeps}
-use Rattle.streams.proofs.writer_sink.WriterSinkSink.write.Given as goal
+use Rattle.step_model.proofs.writer_sink.WriterSinkSink.write.Given as goal
 
 -- no call failed so far, but for those that a signal interrupted, and the writer has taken nothing
 abbrev pub invariant-loop : goal.invariant-loop

@@ -3,8 +3,9 @@ ghost use Rattle.std.specs.Io.KnownBytes.{ReadConsumes};
 ghost use Rattle.step_model.specs.Ends.{read_failures};
 ghost use Rattle.step_model.specs.Faults.{read_fault};
 
+use crate::ends::Source;
+use crate::fault::Fault;
 use std::io::{ErrorKind, Read};
-use step_model::{Fault, Source};
 
 /// How many bytes a reader is asked for in one call, at most.
 const PIECE: usize = 4096;

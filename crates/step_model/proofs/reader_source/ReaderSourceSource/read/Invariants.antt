@@ -1,6 +1,6 @@
 use Rattle.std.proofs.Common.{◌≡◌}
 use Rattle.std.specs.Io.KnownBytes.{Keeps}
-use Rattle.streams.proofs.reader_source.ReaderSourceSource.read.Given as goal
+use Rattle.step_model.proofs.reader_source.ReaderSourceSource.read.Given as goal
 
 -- no call failed so far, but for those that a signal interrupted; the buffer is as it was, and the reader has lost no byte
 abbrev pub invariant-loop : goal.invariant-loop

@@ -3,8 +3,9 @@ ghost use Rattle.std.specs.Io.KnownBytes.{WriteAppends};
 ghost use Rattle.step_model.specs.Ends.{write_failures};
 ghost use Rattle.step_model.specs.Faults.{write_fault};
 
+use crate::ends::Sink;
+use crate::fault::Fault;
 use std::io::{ErrorKind, Write};
-use step_model::{Fault, Sink};
 
 /// A sink whose bytes a writer takes. A call in which the writer takes none of at least one byte has failed.
 #[derive(Drop)]

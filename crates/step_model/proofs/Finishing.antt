@@ -4,9 +4,9 @@ use Rattle.step_model.specs.declared.fault.Fault.{Fault}
 use Rattle.step_model.specs.Ends.{Takes, TakesBeginning, write_failures}
 use Rattle.step_model.specs.Faults.{write_fault}
 use Rattle.step_model.proofs.EndsLemmas.{Takes-trans}
-use Rattle.streams.specs.Held.{Held}
-use Rattle.streams.specs.Pushed.{Outlet, IsPushed, Pushes}
-use Rattle.streams.proofs.Pushing.{beginning-after}
+use Rattle.step_model.specs.Held.{Held}
+use Rattle.step_model.specs.Pushed.{Outlet, IsPushed, Pushes}
+use Rattle.step_model.proofs.Pushing.{beginning-after}
 
 -- a sink to which nothing has been pushed yet
 abbrev pub fresh : Held

@@ -1,4 +1,0 @@
-pub mod Finishing
-pub mod Items
-pub mod LastDigits
-pub mod Pushing
