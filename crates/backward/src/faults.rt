@@ -38,6 +38,7 @@ pub(crate) fn note_flip<'a, A: Allocator + Copy, L: LineStore>(
 }
 
 // Gives the line of a fault that flips these targets, if there are any.
+#[inline]
 fn note_line<'a, A: Allocator + Copy, L: LineStore>(
     program: &Program<'a, A>,
     entry: u32,

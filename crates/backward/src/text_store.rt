@@ -185,6 +185,7 @@ impl<'p, 'a, A: Allocator + Copy> LineStore for TextStore<'p, 'a, A> {
         self.text.put_line(number, targets)
     }
 
+    #[inline]
     fn give_reversed(&mut self, entry: u32, targets: &[u32]) -> Result<(), AllocError> {
         let number = self.text_number(entry);
         self.text.put_line_reversed(number, targets)

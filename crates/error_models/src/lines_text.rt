@@ -21,6 +21,7 @@ use std::marker::Model;
 pub struct LinesText<'a, A: Allocator + Copy> {
     names: Names<A>,
     texts: Vec<LineText<'a>, A>,
+    // The block that is being filled, where the text begins, and those that are full.
     block: TextBlock<A>,
     full: TextBlocks<A>,
 }

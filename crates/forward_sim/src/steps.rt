@@ -60,6 +60,7 @@ pub(crate) fn take_step<A: Allocator + Copy>(
 
 // Measures a letter at a qubit, resets the qubit where `reset`, and records the outcome, inverted where `changes`, where
 // there is a number for it.
+#[inline(always)]
 fn collapse<A: Allocator + Copy>(
     machine: &mut Machine<'_, A>,
     letter: Letter,
