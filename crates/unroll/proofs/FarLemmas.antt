@@ -54,7 +54,7 @@ near_targets : (r n : ℕ) (ts : List Target) → r ≤ n → reaches_far r ts �
 near_targets r n ts le h =
     none_passes (λ t. back_of t ≤ n) (is_before_start r) ts (λ t near. omega (arith, near_target r t near, le)) h
 
-more_turns : (turns b : ℕ) → 0 < turns → b ≤ turns * b
+pub more_turns : (turns b : ℕ) → 0 < turns → b ≤ turns * b
 more_turns zero b h = absurd (omega (arith, h))
 more_turns (suc m) b h = omega arith
 
