@@ -1,5 +1,5 @@
 -- Targets that ascend are those that stand an odd number of times among themselves.
-use Rattle.std.proofs.Common.{◌≡◌, ℕ, zero, suc, ◌+◌, ◌==◌, ◌<◌, ◌≤◌, Bool, true, false, List, [], ◌∷◌, length, refl, ap, subst, sym, ◌∙◌, inl, inr, arith, All}
+use Rattle.std.proofs.Common.{◌≡◌, ℕ, zero, suc, ◌+◌, ◌==◌, ◌<◌, ◌≤◌, true, false, List, [], ◌∷◌, length, refl, ap, subst, sym, ◌∙◌, inl, inr, arith, All}
 use Rattle.std.specs.Prelude.{⊤, filter, slice_index}
 use Rattle.std.specs.List.{range_with_len}
 use Rattle.std.specs.List.Sorted.{IsStrictlyIncreasing}
@@ -7,7 +7,7 @@ use Rattle.std.proofs.lemmas.Bool.{cases_eq, eq-eqb, ne_eqb}
 use Rattle.pauli_word.specs.Parity.{exclusive_or}
 use Rattle.dem_text.specs.private.Numbered.{odd_below}
 use Rattle.step_model.specs.Targets.{is_listed}
-use Rattle.dem_text.proofs.FlipLemmas.{filter-agree}
+use Rattle.dem_text.proofs.FlipLemmas.{filter-agree, none_odd}
 
 -- numbers that ascend from one on, below another
 AscendFrom : ℕ → ℕ → List ℕ → Type 0
@@ -41,14 +41,6 @@ not_among x high (t ∷ targets) h =
     let other : (t == x) ≡ false = ne_eqb t x (λ e. absurd (omega (arith, e, first))) in
     rw (other, not_among x high targets (from_lower (x + 1) (t + 1) high targets (omega (arith, first)) h.2)) refl
 
-none_odd : (low n : ℕ) → filter (λ x. is_listed [] x) (range_with_len low n) ≡ []
-none_odd low zero = refl
-none_odd low (suc n) = none_odd (low + 1) n
-
-unchanged : (b : Bool) → exclusive_or false b ≡ b
-unchanged true = refl
-unchanged false = refl
-
 all_odd : (low n : ℕ) (targets : List ℕ) → AscendFrom low (low + n) targets → filter (λ x. is_listed targets x) (range_with_len low n) ≡ targets
 unfolding AscendFrom
 all_odd low n [] h = none_odd low n
@@ -63,7 +55,7 @@ all_odd low (suc n) (t ∷ targets) h =
           rw (eq-eqb t low (sym e), not_among low (low + suc n) targets (from_lower (low + 1) (t + 1) (low + suc n) targets (omega (arith, e)) h.2)) refl in
           let rest : filter (λ x. is_listed (t ∷ targets) x) (range_with_len (low + 1) n) ≡ targets =
           filter-agree (λ x. is_listed (t ∷ targets) x) (λ x. is_listed targets x) (low + 1) n
-          (λ x after below. ap (λ b. exclusive_or b (is_listed targets x)) (ne_eqb t x (λ same. absurd (omega (arith, same, e, after)))) ∙ unchanged (is_listed targets x))
+          (λ x after below. ap (λ b. exclusive_or b (is_listed targets x)) (ne_eqb t x (λ same. absurd (omega (arith, same, e, after)))))
           ∙ all_odd (low + 1) n targets (subst (λ high. AscendFrom (low + 1) high targets) far (from_lower (low + 1) (t + 1) (low + suc n) targets (omega (arith, e)) h.2)) in
           rw here (ap (λ xs. low ∷ xs) rest ∙ ap (λ x. x ∷ targets) e)
       | inr differ ↦

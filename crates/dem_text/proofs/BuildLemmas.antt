@@ -1,6 +1,6 @@
 -- The error lines of lines as they are reached, appended one after another.
-use Rattle.std.proofs.Common.{◌≡◌, ℕ, ◌≤◌, true, false, ℤ, List, [], ◌∷◌, ◌++◌, length, map, refl, ap, ap₂, sym, ◌∙◌, append_assoc, append-nil, arith}
-use Rattle.std.specs.Prelude.{cond, filter}
+use Rattle.std.proofs.Common.{◌≡◌, ℕ, ◌≤◌, ℤ, List, [], ◌∷◌, ◌++◌, length, map, refl, ap, ap₂, sym, ◌∙◌, append_assoc, append-nil, arith}
+use Rattle.std.specs.Prelude.{filter}
 use Rattle.std.specs.List.{range_with_len}
 use Rattle.std.proofs.lemmas.List.{map-append}
 use Rattle.std.proofs.lemmas.List.FromFn.{length-map-range_with_len}
@@ -9,19 +9,14 @@ use Rattle.dem_text.specs.Meanings.{detector_count, detectors_to, error_line, er
 use Rattle.stim_lexer.specs.Reached.{greatest_by}
 use Rattle.dem_text.specs.Shifts.{Placed}
 use Rattle.dem_text.specs.private.Summed.{AreCounts}
+use Rattle.std.proofs.lemmas.List.Elements.{filter-append}
 
 -- ---- more error lines
 
-filter-both : (xs ys : List Placed) → filter (λ q. is_error q.operation) (xs ++ ys) ≡ filter (λ q. is_error q.operation) xs ++ filter (λ q. is_error q.operation) ys
-filter-both [] ys = refl
-filter-both (x ∷ xs) ys = elim (is_error x.operation) as (λ b. cond b (x ∷ filter (λ q. is_error q.operation) (xs ++ ys)) (filter (λ q. is_error q.operation) (xs ++ ys)) ≡ cond b (x ∷ filter (λ q. is_error q.operation) xs) (filter (λ q. is_error q.operation) xs) ++ filter (λ q. is_error q.operation) ys) [
-  | true ↦ ap (λ (qs : List Placed). x ∷ qs) (filter-both xs ys)
-  | false ↦ filter-both xs ys
-]
-
-errors-both : (d o : ℕ) (xs ys : List Placed) → error_lines d o (xs ++ ys) ≡ error_lines d o xs ++ error_lines d o ys
-errors-both d o xs ys =
-    ap (map (error_line d o)) (filter-both xs ys) ∙ map-append (error_line d o) (filter (λ q. is_error q.operation) xs) (filter (λ q. is_error q.operation) ys)
+pub error_lines-append : (d o : ℕ) (xs ys : List Placed) → error_lines d o (xs ++ ys) ≡ error_lines d o xs ++ error_lines d o ys
+error_lines-append d o xs ys =
+    ap (map (error_line d o)) (filter-append (λ p. is_error p.operation) xs ys)
+    ∙ map-append (error_line d o) (filter (λ p. is_error p.operation) xs) (filter (λ p. is_error p.operation) ys)
 
 -- a model with more error lines
 abbrev pub with_lines : ErrorModel → List ErrorLine → ErrorModel
@@ -62,7 +57,7 @@ unrolling-next d o model model' rest rest' whole p h e more =
       left =
           ap (λ m. with_lines m (error_lines d o rest')) more
           ∙ lines-both model (error_lines d o (p ∷ [])) (error_lines d o rest')
-          ∙ ap (with_lines model) (sym (errors-both d o (p ∷ []) rest'))
+          ∙ ap (with_lines model) (sym (error_lines-append d o (p ∷ []) rest'))
           ∙ ap (λ ps. with_lines model (error_lines d o ps)) (sym e)
           ∙ h.left;
       low = omega (arith, detectors, h.low);

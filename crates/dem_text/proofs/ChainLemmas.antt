@@ -1,9 +1,10 @@
 -- Instructions in no block and with no shift among them, before what follows: the model of a text that writes them.
-use Rattle.std.proofs.Common.{◌≡◌, ℕ, Bool, true, false, if◌then◌else◌, ℤ, pos, nat_abs, neg_ℤ, zero, suc, ◌+◌, nat_lt, List, [], ◌∷◌, ◌++◌, append-nil, length, map, None, Ok, refl, ap, ap₂, sym, ◌∙◌, arith}
+use Rattle.std.proofs.Common.{◌≡◌, ℕ, false, ◌+◌, nat_lt, List, [], ◌∷◌, ◌++◌, append-nil, length, map, None, Ok, refl, ap, ap₂, sym, ◌∙◌, arith}
 use Rattle.std.specs.Prelude.{⊤}
 use Rattle.std.specs.List.{list_any}
 use Rattle.std.proofs.lemmas.Bool.{or_from, or_parts, true≢false}
-use Rattle.stim_parser.specs.Numbers.{is_number_beyond, has_minus, magnitude_of, whole_value}
+use Rattle.stim_parser.proofs.WholeNumberLemmas.{magnitude_kept}
+use Rattle.stim_parser.specs.Numbers.{is_number_beyond, magnitude_of, whole_value}
 use Rattle.dem_text.specs.declared.operation.Operation.{Operation}
 use Rattle.dem_text.specs.declared.operation.Operation.TheVariants.{PauliError, DetectorDeclaration, ObservableInclude, Shifts}
 use Rattle.dem_text.specs.declared.target.Target.{Target}
@@ -23,9 +24,9 @@ use Rattle.dem_text.specs.private.Leading.{before_tree}
 use Rattle.dem_text.specs.Meanings.{meaning_of}
 use Rattle.dem_text.specs.Models.{first_beyond, is_beyond, is_coordinate_beyond, model_in, placed_lines}
 use Rattle.dem_text.specs.Shifts.{Placed, coordinates_given, no_shift, placed_at, placed_from, shifted_by}
-use Rattle.stim_parser.specs.Offsets.{moved}
 use Rattle.dem_text.proofs.PlaceLemmas.{unmoved}
 use Rattle.dem_text.proofs.ReadLemmas.{read-model, whole-model}
+use Rattle.dem_text.proofs.ShiftLemmas.{moved-none}
 
 -- ---- the tree that they stand before
 
@@ -58,18 +59,6 @@ stay-both (i ∷ is) js h k = (h.0, stay-both is js h.1 k)
 
 -- ---- no number is beyond its limit
 
-pub moved_by_nothing : (stated : List ℤ) → moved [] stated ≡ stated
-moved_by_nothing [] = refl
-moved_by_nothing (c ∷ stated) = refl
-
-magnitude_kept : (text : List ℕ) → nat_abs (whole_value text) ≡ magnitude_of text
-magnitude_kept text = by (has_minus text) (magnitude_of text)
-  where
-    by : (b : Bool) (n : ℕ) → nat_abs (if b then neg_ℤ (pos n) else pos n) ≡ n
-    by true zero = refl
-    by true (suc n) = refl
-    by false n = refl
-
 values_near : (arguments : List (List ℕ)) → list_any (λ text. is_number_beyond (magnitude_of text)) arguments ≡ false → list_any is_coordinate_beyond (map whole_value arguments) ≡ false
 values_near [] h = refl
 values_near (a ∷ arguments) h =
@@ -80,7 +69,7 @@ coordinates_near : (line : ℕ) (o : Operation) (arguments : List (List ℕ)) (t
     → list_any is_coordinate_beyond (coordinates_given o arguments []) ≡ false
 coordinates_near line PauliError arguments targets fits = refl
 coordinates_near line DetectorDeclaration arguments targets fits =
-    ap (list_any is_coordinate_beyond) (moved_by_nothing (map whole_value arguments)) ∙ values_near arguments fits.arguments_within
+    ap (list_any is_coordinate_beyond) (moved-none (map whole_value arguments)) ∙ values_near arguments fits.arguments_within
 coordinates_near line ObservableInclude arguments targets fits = refl
 coordinates_near line Shifts arguments targets fits = refl
 

@@ -171,28 +171,21 @@ errors-near read (line ∷ lines) h =
     let i = instruction_cut (read + 1) PauliError (cut_of line) in
     (or_from (has_target_beyond i.targets) (list_any is_coordinate_beyond []) (h.0.error.known (read + 1)).within refl, errors-near (read + 1) lines h.1)
 
-quiet-stay : (read : ℕ) (lines : List (List ℕ)) → AreQuiet read lines → AllStay (said_from read lines)
-quiet-stay read [] h = tt
-quiet-stay read (line ∷ lines) h = stay-both (said_in (read + 1) line) (said_from (read + 1) lines) (by h.0) (quiet-stay (read + 1) lines h.1)
+quiet-lines : (read : ℕ) (lines : List (List ℕ)) → AreQuiet read lines → AllStay (said_from read lines) × AllNear (said_from read lines)
+quiet-lines read [] h = (tt, tt)
+quiet-lines read (line ∷ lines) h =
+    let first = by h.0 in
+    let rest = quiet-lines (read + 1) lines h.1 in
+    let said = said_in (read + 1) line in
+    (stay-both said (said_from (read + 1) lines) first.0 rest.0, near-both said (said_from (read + 1) lines) first.1 rest.1)
   where
-    by : IsQuiet (read + 1) line → AllStay (said_in (read + 1) line)
-    by (inl silent) = let s = silent in rw s tt
+    by : IsQuiet (read + 1) line → AllStay (said_in (read + 1) line) × AllNear (said_in (read + 1) line)
+    by (inl silent) = let s = silent in rw s (tt, tt)
     by (inr d) =
         let speaks = d.speaks in
         let reading = d.reading in
         let i = d.instruction in
-        rw (speaks, reading) (stays i.operation i.arguments i.targets d.declares.still, tt)
-
-quiet-near : (read : ℕ) (lines : List (List ℕ)) → AreQuiet read lines → AllNear (said_from read lines)
-quiet-near read [] h = tt
-quiet-near read (line ∷ lines) h = near-both (said_in (read + 1) line) (said_from (read + 1) lines) (by h.0) (quiet-near (read + 1) lines h.1)
-  where
-    by : IsQuiet (read + 1) line → AllNear (said_in (read + 1) line)
-    by (inl silent) = let s = silent in rw s tt
-    by (inr d) =
-        let speaks = d.speaks in
-        let reading = d.reading in
-        rw (speaks, reading) (near-fitting d.instruction d.declares.fits, tt)
+        rw (speaks, reading) ((stays i.operation i.arguments i.targets d.declares.still, tt), (near-fitting i d.declares.fits, tt))
 
 unless-same : (r : Option Fault) (m n : ErrorModel) (f : Fault) → unless r m ≡ Err f → unless r n ≡ Err f
 unless-same None m n f e = absurd cc
@@ -241,8 +234,8 @@ leading-led text rest count counts t h =
     let n = length h.errors in
     let is = leading-is text rest count counts h in
     let led = led_by text count in
-    let stay : AllStay led = subst AllStay (sym is) (stay-both (errors_from 0 h.errors) (said_from n h.others) (errors-stay 0 h.errors) (quiet-stay n h.others h.are_quiet)) in
-    let near : AllNear led = subst AllNear (sym is) (near-both (errors_from 0 h.errors) (said_from n h.others) (errors-near 0 h.errors h.are_errors) (quiet-near n h.others h.are_quiet)) in
+    let stay : AllStay led = subst AllStay (sym is) (stay-both (errors_from 0 h.errors) (said_from n h.others) (errors-stay 0 h.errors) (quiet-lines n h.others h.are_quiet).0) in
+    let near : AllNear led = subst AllNear (sym is) (near-both (errors_from 0 h.errors) (said_from n h.others) (errors-near 0 h.errors h.are_errors) (quiet-lines n h.others h.are_quiet).1) in
     let placed_are = placed-led led t stay in
     let counts_are = subst (λ (js : List Instruction). AreCounts (map placed js) counts.detectors counts.observables counts.errors) (sym is) h.counts_are in
     record {

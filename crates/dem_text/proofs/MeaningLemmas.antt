@@ -1,11 +1,10 @@
 -- The instructions of a model that can be written mean that model.
-use Rattle.std.proofs.Common.{◌≡◌, ℕ, zero, suc, ◌+◌, ◌-◌, ◌==◌, ◌≤◌, ◌<◌, ◌^◌, max, nat_lt, Bool, true, false, not, ◌||◌, ◌&&◌, if◌then◌else◌, ℤ, nat_abs, List, [], ◌∷◌, ◌++◌, map, filter, length, Result, Ok, refl, ap, ap₂, sym, ◌∙◌, append-nil, inl, inr, arith, All}
+use Rattle.std.proofs.Common.{◌≡◌, ℕ, zero, suc, ◌+◌, ◌-◌, ◌==◌, ◌≤◌, ◌<◌, ◌^◌, max, nat_lt, Bool, true, false, not, ◌||◌, ◌&&◌, if◌then◌else◌, ℤ, nat_abs, List, [], ◌∷◌, ◌++◌, map, length, Result, Ok, refl, ap, ap₂, sym, ◌∙◌, append-nil, inl, inr, arith, All}
 use Rattle.std.specs.Prelude.{slice_index_or}
 use Rattle.std.specs.Fmt.{signed_decimal}
 use Rattle.std.specs.List.{range_with_len}
 use Rattle.std.proofs.lemmas.Bool.{cases_Bool, cases_eq, eq-eqb, ltb-false, ltb-true, ne_eqb}
 use Rattle.std.proofs.lemmas.List.{map-append}
-use Rattle.std.proofs.lemmas.List.Elements.{filter-append}
 use Rattle.step_model.specs.ErrorModels.{ErrorLine, ErrorModel}
 use Rattle.step_model.specs.declared.fault.Fault.{Fault}
 use Rattle.step_model.specs.WellFormed.{CoordinatesFit}
@@ -13,19 +12,21 @@ use Rattle.stim_lexer.specs.Bytes.{is_empty}
 use Rattle.stim_parser.specs.Numbers.{whole_value}
 use Rattle.error_models.specs.ModelText.{model_text}
 use Rattle.dem_text.specs.declared.target.Target.{Target}
-use Rattle.dem_text.specs.Meanings.{detector_count, detectors_to, error_line, error_lines, gives_coordinates, is_error, last_coordinates, meaning_of, observable_count, observables_to, numbered}
+use Rattle.dem_text.specs.Meanings.{detector_count, detectors_to, error_line, error_lines, gives_coordinates, last_coordinates, meaning_of, observable_count, observables_to, numbered}
 use Rattle.dem_text.specs.private.Summed.{greatest_over}
 use Rattle.stim_lexer.specs.Reached.{greatest_by}
 use Rattle.dem_text.specs.Models.{model_in}
 use Rattle.dem_text.specs.private.Numbered.{odd_below, numbers_of}
 use Rattle.dem_text.specs.Shifts.{Placed}
-use Rattle.dem_text.proofs.ChainLemmas.{moved_by_nothing, placed}
+use Rattle.dem_text.proofs.ChainLemmas.{placed}
 use Rattle.dem_text.specs.Writable.{IsWritable, IsWritableLine}
 use Rattle.dem_text.proofs.AscendingLemmas.{odd_below-ascending}
 use Rattle.dem_text.proofs.ModelInstructions.{detector_instruction, detector_instructions, error_instruction, error_instructions, instructions_of, instructions_text, observable_instruction, observable_instructions, target_of_number}
 use Rattle.stim_parser.proofs.NumberLemmas.{signed_decimal_is_whole}
 use Rattle.dem_text.proofs.StandLemmas.{instructions_stand}
 use Rattle.dem_text.proofs.TextReadLemmas.{text_means}
+use Rattle.dem_text.proofs.BuildLemmas.{error_lines-append}
+use Rattle.dem_text.proofs.ShiftLemmas.{moved-none}
 
 -- ---- lines of each kind
 
@@ -140,11 +141,6 @@ no_error_observes : (detectors observables : ℕ) (ks : List ℕ) → error_line
 no_error_observes detectors observables [] = refl
 no_error_observes detectors observables (k ∷ ks) = no_error_observes detectors observables ks
 
-error_lines-append : (detectors observables : ℕ) (xs ys : List Placed) → error_lines detectors observables (xs ++ ys) ≡ error_lines detectors observables xs ++ error_lines detectors observables ys
-error_lines-append detectors observables xs ys =
-    ap (map (error_line detectors observables)) (filter-append (λ p. is_error p.operation) xs ys)
-    ∙ map-append (error_line detectors observables) (filter (λ p. is_error p.operation) xs) (filter (λ p. is_error p.operation) ys)
-
 -- ---- coordinates
 
 last-append : (d : ℕ) (found : List ℤ) (xs ys : List Placed) → last_coordinates d found (xs ++ ys) ≡ last_coordinates d (last_coordinates d found xs) ys
@@ -170,7 +166,7 @@ values_found (c ∷ coordinates) h =
 
 coordinates_said : (coordinates : List (List ℤ)) (k : ℕ) → CoordinatesFit (slice_index_or coordinates k []) → (placed (detector_instruction coordinates k)).coordinates ≡ slice_index_or coordinates k []
 coordinates_said coordinates k fit =
-    moved_by_nothing (map whole_value (map signed_decimal (slice_index_or coordinates k []))) ∙ values_found (slice_index_or coordinates k []) fit.within
+    moved-none (map whole_value (map signed_decimal (slice_index_or coordinates k []))) ∙ values_found (slice_index_or coordinates k []) fit.within
 
 -- a line's coordinates where it names the detector, and what was found where it doesn't
 taken : (b : Bool) (xs : List ℤ) → b ≡ true → (if not (is_empty xs) && (b || false) then xs else []) ≡ xs

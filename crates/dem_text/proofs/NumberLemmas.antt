@@ -15,10 +15,6 @@ use Rattle.dem_text.specs.private.Numbered.{odd_below, numbers_of}
 use Rattle.step_model.specs.Targets.{is_listed}
 use Rattle.dem_text.proofs.FlipLemmas.{filter-agree}
 
-stays : (b : Bool) → b ≡ exclusive_or false b
-stays true = refl
-stays false = refl
-
 -- ---- the order doesn't matter
 
 abbrev odd : ℕ → Bool
@@ -29,12 +25,8 @@ abbrev once : ℕ → ℕ → ℕ
 once t u = cond (u == t) 1 0
 
 odd-more : (b : Bool) (n : ℕ) → exclusive_or b (odd n) ≡ odd (cond b 1 0 + n)
-odd-more true n = let e : suc n ≡ 1 + n = omega arith in turned (odd n) ∙ ap odd e
-  where
-    turned : (b : Bool) → exclusive_or true b ≡ not b
-    turned true = refl
-    turned false = refl
-odd-more false n = let e : n ≡ 0 + n = omega arith in sym (stays (odd n)) ∙ ap odd e
+odd-more true n = let e : suc n ≡ 1 + n = omega arith in ap odd e
+odd-more false n = let e : n ≡ 0 + n = omega arith in ap odd e
 
 flipped-counted : (t : ℕ) (xs : List ℕ) → is_listed xs t ≡ odd (sum_by (once t) xs)
 flipped-counted t [] = refl

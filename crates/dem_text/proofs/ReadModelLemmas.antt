@@ -5,7 +5,7 @@ use Rattle.std.specs.List.{list_any, list_all, range_with_len}
 use Rattle.std.specs.Option.{option_or}
 use Rattle.std.proofs.lemmas.Bool.{false≢true, ltb-false, or_parts}
 use Rattle.std.proofs.lemmas.List.Elements.{All-cons, All-filter, All-nil}
-use Rattle.std.proofs.lemmas.List.FromFn.{get_or-range_with_len, length-map-range_with_len, length-range_with_len}
+use Rattle.std.proofs.lemmas.List.FromFn.{length-map-range_with_len}
 use Rattle.std.proofs.lemmas.List.Kept.{IsStrictlyIncreasing-filter}
 use Rattle.step_model.specs.declared.fault.Fault.{Fault}
 use Rattle.step_model.specs.ErrorModels.{ErrorModel}
@@ -37,6 +37,7 @@ use Rattle.dem_text.proofs.TreeLemmas.{items_are_written}
 use Rattle.dem_text.specs.Writable.{IsWritable, IsWritableLine}
 use Rattle.dem_text.proofs.InstructionTexts.{instruction}
 use Rattle.dem_text.proofs.MeaningLemmas.{reads_back}
+use Rattle.dem_text.proofs.FlipLemmas.{all-below}
 
 -- ---- instructions that are reached
 
@@ -149,17 +150,12 @@ observable_within Separator h = omega arith
 
 -- ---- error lines
 
-range_below : (n : ℕ) → All (λ t. t < n) (range_with_len 0 n)
-range_below n k d h =
-    let within : k < n = omega (arith, h, length-range_with_len 0 n) in
-    let here = get_or-range_with_len 0 n k d within in omega (arith, here, within)
-
 line_kept : (detectors observables : ℕ) (p : Placed) → is_probability p.text ≡ true → IsWritableLine (detectors + observables) (error_line detectors observables p)
 line_kept detectors observables p accepted =
     record {
       accepted = accepted;
       ascending = IsStrictlyIncreasing-filter _ (range_with_len 0 (detectors + observables)) (range_rises 0 (detectors + observables));
-      in_range = All-filter _ (λ t. t < detectors + observables) (range_with_len 0 (detectors + observables)) (range_below (detectors + observables));
+      in_range = All-filter _ (λ t. t < detectors + observables) (range_with_len 0 (detectors + observables)) (all-below (detectors + observables));
     }
 
 lines_writable : (detectors observables : ℕ) (lines : List Placed) → AreKept lines → All (IsWritableLine (detectors + observables)) (error_lines detectors observables lines)

@@ -1,6 +1,6 @@
 -- Offsets added number by number, coordinates moved by them, and what there is room for.
 use Rattle.std.proofs.Common.{◌≡◌, ℕ, zero, suc, ◌+◌, ◌*◌, ◌^◌, ◌<◌, ◌≤◌, ℤ, pos, ◌+ℤ◌, List, [], ◌∷◌, length, drop, get_or, map, Bor, Bool, true, false, ◌||◌, refl, subst, ap, ap₂, sym, ◌∙◌, inl, inr, arith}
-use Rattle.std.specs.Prelude.{All, if◌then◌else◌, max, nat_abs, nat_lt, neg_ℤ}
+use Rattle.std.specs.Prelude.{All, max, nat_abs, nat_lt}
 use Rattle.std.proofs.lemmas.Bool.{cases_lt, ltb-false}
 use Rattle.std.proofs.Math.IntN.{+ℤ_idl, +ℤ_idr}
 use Rattle.std.proofs.lemmas.Int.{ints}
@@ -9,7 +9,8 @@ use Rattle.std.proofs.lemmas.List.Elements.{All-cons}
 use Rattle.stim_parser.specs.declared.forms.ArgumentForm.{ArgumentForm}
 use Rattle.stim_parser.specs.declared.forms.ArgumentForm.TheVariants.{NoArguments, ProbabilityAtWill, OneProbability, WholeNumbers, Decimals, OneNumber}
 use Rattle.stim_parser.specs.Limits.{has_argument_beyond, has_wrong_arguments, is_wrong_count}
-use Rattle.stim_parser.specs.Numbers.{greatest_number, has_minus, magnitude_of, whole_value}
+use Rattle.stim_parser.proofs.WholeNumberLemmas.{magnitude_kept}
+use Rattle.stim_parser.specs.Numbers.{greatest_number, magnitude_of, whole_value}
 use Rattle.stim_parser.specs.declared.table.Keyword.TheVariants.{Does}
 use Rattle.dem_text.specs.declared.operation.Operation.{Operation}
 use Rattle.dem_text.specs.declared.operation.Operation.TheVariants.{PauliError, DetectorDeclaration, ObservableInclude, Shifts}
@@ -41,7 +42,7 @@ length-both (o ∷ offset) (m ∷ more) = let rest = length-both offset more in 
 
 -- ---- coordinates
 
-moved-none : (stated : List ℤ) → moved [] stated ≡ stated
+pub moved-none : (stated : List ℤ) → moved [] stated ≡ stated
 moved-none [] = refl
 moved-none (c ∷ stated) = refl
 
@@ -98,15 +99,9 @@ pub small_values : (arguments : List (List ℕ)) → has_argument_beyond greates
 small_values [] h = λ k d below. absurd (omega (arith, below))
 small_values (a ∷ arguments) h =
     let low = ltb-false greatest_number (magnitude_of a) (left (nat_lt greatest_number (magnitude_of a)) _ h) in
-    let same = abs-whole (has_minus a) (magnitude_of a) in
     All-cons (λ n. nat_abs n < beyond_stated) (whole_value a) (map whole_value arguments)
-    (omega (arith, low, same))
+    (omega (arith, low, magnitude_kept a))
     (small_values arguments (right (nat_lt greatest_number (magnitude_of a)) _ h))
-  where
-    abs-whole : (minus : Bool) (n : ℕ) → nat_abs (if minus then neg_ℤ (pos n) else pos n) ≡ n
-    abs-whole true zero = refl
-    abs-whole true (suc n) = refl
-    abs-whole false n = refl
 
 -- ---- room for shifts
 

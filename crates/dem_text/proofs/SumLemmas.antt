@@ -5,6 +5,7 @@ use Rattle.std.specs.List.{range_with_len}
 use Rattle.std.proofs.lemmas.Bool.{cases_lt, eq-eqb, ne_eqb}
 use Rattle.std.proofs.lemmas.List.{drop_all}
 use Rattle.pauli_word.specs.Parity.{exclusive_or}
+use Rattle.pauli_word.proofs.Parities.{exclusive_or-false, exclusive_or_assoc, exclusive_or_left_comm}
 use Rattle.step_model.specs.ErrorModels.{ErrorLine, ErrorModel}
 use Rattle.dem_text.specs.Sums.{is_in_symptom, symptom_of}
 use Rattle.step_model.specs.Targets.{is_listed}
@@ -59,14 +60,7 @@ turned_at-map f a (suc n) (suc u) =
     (turned_at-map f (a + 1) n u ∙ ap (λ m. map (λ t. exclusive_or (m == t) (f t)) (range_with_len (a + 1) n)) at)
 
 swapped : (a b c : Bool) → exclusive_or a (exclusive_or b c) ≡ exclusive_or (exclusive_or b a) c
-swapped true true true = refl
-swapped true true false = refl
-swapped true false true = refl
-swapped true false false = refl
-swapped false true true = refl
-swapped false true false = refl
-swapped false false true = refl
-swapped false false false = refl
+swapped a b c = exclusive_or_left_comm a b c ∙ sym (exclusive_or_assoc b a c)
 
 pub turned-map : (f : ℕ → Bool) (n : ℕ) (targets : List ℕ) → turned (map f (range_with_len 0 n)) targets ≡ map (λ t. exclusive_or (is_listed targets t) (f t)) (range_with_len 0 n)
 turned-map f n [] = refl
@@ -94,16 +88,12 @@ none-set : (a n : ℕ) → replicate n false ≡ map (λ t. false) (range_with_l
 none-set a zero = refl
 none-set a (suc n) = ap (λ (bs : List Bool). false ∷ bs) (none-set (a + 1) n)
 
-plain : (b : Bool) → exclusive_or b false ≡ b
-plain true = refl
-plain false = refl
-
 pub symptom-turned : (model : ErrorModel) (named : List Bool) → turned_by (replicate (model.detectors + model.observables) false) named model.lines ≡ symptom_of model named
 symptom-turned model named =
     let count = model.detectors + model.observables in
     ap (λ bits. turned_by bits named model.lines) (none-set 0 count)
     ∙ turned_by-map (λ t. false) count named model.lines
-    ∙ map-same _ _ 0 count (λ t above. plain (is_in_symptom named model.lines t))
+    ∙ map-same _ _ 0 count (λ t above. exclusive_or-false (is_in_symptom named model.lines t))
 
 -- ---- lines one after another
 

@@ -1,8 +1,7 @@
 -- Lines that are summed as they were read: their targets turn round what those of their error lines turn round.
-use Rattle.std.proofs.Common.{◌≡◌, ℕ, zero, suc, ◌+◌, ◌&&◌, ◌<◌, ◌≤◌, Bool, true, false, if◌then◌else◌, List, [], ◌∷◌, length, drop, get_or, map, replicate, refl, ap, ap₂, subst, sym, ◌∙◌, inl, inr, arith}
+use Rattle.std.proofs.Common.{◌≡◌, ℕ, zero, suc, ◌+◌, ◌&&◌, ◌<◌, ◌≤◌, Bool, true, false, if◌then◌else◌, List, [], ◌∷◌, length, drop, get_or, map, replicate, refl, ap, ap₂, subst, sym, ◌∙◌, arith}
 use Rattle.std.specs.Prelude.{cond, filter}
 use Rattle.std.specs.List.{range_with_len}
-use Rattle.std.proofs.lemmas.Bool.{cases_lt, eq-eqb, ne_eqb}
 use Rattle.std.proofs.lemmas.List.{get_or-drop, ext_get_or}
 use Rattle.std.proofs.lemmas.List.FromFn.{get_or-map-range_with_len, length-map-range_with_len}
 use Rattle.pauli_word.specs.Parity.{exclusive_or}
@@ -16,6 +15,7 @@ use Rattle.dem_text.specs.Sums.{symptom_of}
 use Rattle.step_model.specs.Targets.{is_listed}
 use Rattle.dem_text.specs.private.Turned.{turned, turned_by}
 use Rattle.dem_text.proofs.SumLemmas.{length-turned_if, symptom-turned, turned-map}
+use Rattle.step_model.proofs.MemberLemmas.{listed_in_range}
 
 -- ---- how many error lines
 
@@ -28,36 +28,6 @@ count-at errors p rest =
     ]
 
 -- ---- the same turned round
-
-flipped-before : (p : ℕ → Bool) (t a m : ℕ) → t < a → is_listed (filter p (range_with_len a m)) t ≡ false
-flipped-before p t a zero h = refl
-flipped-before p t a (suc m) h =
-    let later = flipped-before p t (a + 1) m (omega (arith, h)) in
-    let found = filter p (range_with_len (a + 1) m) in
-    elim (p a) as (λ b. is_listed (cond b (a ∷ found) found) t ≡ false) [
-      | true ↦ rw (ne_eqb a t (λ e. absurd (omega (arith, e, h)))) later
-      | false ↦ later
-    ]
-
-flipped-here : (b : Bool) (t : ℕ) (found : List ℕ) → is_listed found t ≡ false → is_listed (cond b (t ∷ found) found) t ≡ b
-flipped-here true t found none = rw (eq-eqb t t refl, none) refl
-flipped-here false t found none = none
-
-flipped-later : (b : Bool) (t a : ℕ) (found : List ℕ) → a < t → is_listed (cond b (a ∷ found) found) t ≡ is_listed found t
-flipped-later true t a found h = rw (ne_eqb a t (λ e. absurd (omega (arith, e, h)))) refl
-flipped-later false t a found h = refl
-
-flipped-within : (p : ℕ → Bool) (t a m : ℕ) → a ≤ t → t < a + m → is_listed (filter p (range_with_len a m)) t ≡ p t
-flipped-within p t a zero h j = absurd (omega (arith, h, j))
-flipped-within p t a (suc m) h j =
-    let found = filter p (range_with_len (a + 1) m) in
-    elim (cases_lt a t) [
-      | inl above ↦ flipped-later (p a) t a found above ∙ flipped-within p t (a + 1) m (omega (arith, above)) (omega (arith, j))
-      | inr below ↦
-          let same : a ≡ t = omega (arith, h, below) in
-          ap (λ c. is_listed (cond (p c) (c ∷ found) found) t) same
-          ∙ flipped-here (p t) t found (flipped-before p t (a + 1) m (omega (arith, same)))
-    ]
 
 bits-map : (bits : List Bool) → bits ≡ map (λ t. get_or bits t false) (range_with_len 0 (length bits))
 bits-map bits =
@@ -84,7 +54,7 @@ turned-flipped : (d o : ℕ) (bits : List Bool) (targets : List Target) → leng
     → turned bits (numbers_of d targets) ≡ turned bits (flipped d o targets)
 turned-flipped d o bits targets long =
     turned-same bits (d + o) (numbers_of d targets) (odd_below (d + o) (numbers_of d targets)) long
-    (λ t below. sym (flipped-within (λ u. is_listed (numbers_of d targets) u) t 0 (d + o) (omega arith) (omega (arith, below))))
+    (λ t below. sym (listed_in_range (λ u. is_listed (numbers_of d targets) u) t 0 (d + o) (omega arith) (omega (arith, below))))
 
 -- ---- lines one after another
 

@@ -55,7 +55,7 @@ pub FeedBack-append : (c : Counts) (xs ys : List TextStep) → FeedBack c xs →
 FeedBack-append c [] ys f g = g
 FeedBack-append c (x ∷ xs) ys f g = (f.0, FeedBack-append (counts_after c x) xs ys f.1 g)
 
-records-grow : (c : Counts) (xs : List TextStep) → c.records ≤ (counts_over c xs).records
+pub records-grow : (c : Counts) (xs : List TextStep) → c.records ≤ (counts_over c xs).records
 records-grow c [] = omega arith
 records-grow c (x ∷ xs) = omega (arith, records-grow (counts_after c x) xs)
 

@@ -19,6 +19,7 @@ use Rattle.programs.specs.Listed.{entry_at, fault_of, flip_fault, recorded_fault
 use Rattle.programs.specs.Named.{IsNamed, IsNamedFlip, IsRecord, IsStepOf}
 use Rattle.programs.specs.Numbering.{made_by, made_in_collapse, named, record_number, flip_name, counts_after, counts_over, numbered, numbered_step, feeds_back, FeedBack}
 use Rattle.programs.proofs.ListedLaws.{fault_there, length-step_made_faults}
+use Rattle.programs.proofs.Building.{records-grow}
 
 is_letter : (a : Letter) → is_I a ≡ false → a ≢ I
 is_letter I h e = cc
@@ -34,10 +35,6 @@ letter_there : (n : ℕ) (a : Letter) (q : ℕ) → letter_fits n a q ≡ true �
 letter_there n a q h =
     let parts = and_parts (not (is_I a)) (nat_lt q n) h in
     record { letter = is_letter a (not-true (is_I a) parts.0); qubit = ltb-true q n parts.1 }
-
-records-grow : (c : Counts) (steps : List TextStep) → c.records ≤ (counts_over c steps).records
-records-grow c [] = omega arith
-records-grow c (s ∷ steps) = omega (arith, records-grow (counts_after c s) steps)
 
 no_terms : (terms : List Term) → (length terms == 0) ≡ true → terms ≡ []
 no_terms [] h = refl

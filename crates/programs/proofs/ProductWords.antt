@@ -1,8 +1,8 @@
 -- A product of letters whose first stands apart is a word other than the identity.
-use Rattle.std.proofs.Common.{◌≡◌, ◌≢◌, ℕ, zero, suc, ◌<◌, ◌==◌, Bool, true, false, not, ◌||◌, List, [], ◌∷◌, length, set, refl, sym, ap, ◌∙◌, arith}
+use Rattle.std.proofs.Common.{◌≡◌, ◌≢◌, ℕ, zero, suc, ◌<◌, ◌==◌, true, false, not, ◌||◌, List, [], ◌∷◌, length, set, refl, sym, ap, ◌∙◌, arith}
 use Rattle.std.specs.List.{list_any}
 use Rattle.std.specs.Prelude.{All}
-use Rattle.std.proofs.lemmas.Bool.{and_from, eq-eqb}
+use Rattle.std.proofs.lemmas.Bool.{and_from, eq-eqb, or_right}
 use Rattle.std.proofs.lemmas.List.{get_or-set_other}
 use Rattle.std.proofs.lemmas.List.Elements.{recursion_from_All, All-from_recursion}
 use Rattle.pauli_word.specs.declared.letter.Letter.{Letter}
@@ -21,11 +21,7 @@ use Rattle.programs.specs.Apart.{BeginsApart}
 some_set : (w : List Letter) (q : ℕ) (a : Letter) → q < length w → is_I a ≡ false → list_any (λ b. not (is_I b)) (set w q a) ≡ true
 some_set [] q a h k = absurd (omega arith)
 some_set (b ∷ w) zero a h k = ap (λ x. not x || list_any (λ b. not (is_I b)) w) k
-some_set (b ∷ w) (suc q) a h k = or_true (not (is_I b)) (list_any (λ b. not (is_I b)) (set w q a)) (some_set w q a (omega arith) k)
-  where
-    or_true : (x y : Bool) → y ≡ true → (x || y) ≡ true
-    or_true true y e = refl
-    or_true false y e = e
+some_set (b ∷ w) (suc q) a h k = or_right (not (is_I b)) (list_any (λ b. not (is_I b)) (set w q a)) (some_set w q a (omega arith) k)
 
 none_at : (n q : ℕ) → letter_at (no_letters n) q ≡ I
 none_at zero q = refl

@@ -34,16 +34,8 @@ abbrev once : ℕ → ℕ → ℕ
 once t u = cond (u == t) 1 0
 
 odd_more : (b : Bool) (n : ℕ) → exclusive_or b (odd n) ≡ odd (cond b 1 0 + n)
-odd_more true n = let e : suc n ≡ 1 + n = omega arith in turned (odd n) ∙ ap odd e
-  where
-    turned : (b : Bool) → exclusive_or true b ≡ not b
-    turned true = refl
-    turned false = refl
-odd_more false n = let e : n ≡ 0 + n = omega arith in kept (odd n) ∙ ap odd e
-  where
-    kept : (b : Bool) → exclusive_or false b ≡ b
-    kept true = refl
-    kept false = refl
+odd_more true n = let e : suc n ≡ 1 + n = omega arith in ap odd e
+odd_more false n = let e : n ≡ 0 + n = omega arith in ap odd e
 
 listed_by_count : (t : ℕ) (xs : List ℕ) → is_listed xs t ≡ odd (sum_by (once t) xs)
 listed_by_count t [] = refl

@@ -1,32 +1,25 @@
 -- A byte that stands nowhere in a text stands nowhere in what is cut from it.
-use Rattle.std.proofs.Common.{◌≡◌, ℕ, zero, suc, ◌+◌, Bool, true, false, not, ◌||◌, List, [], ◌∷◌, drop, refl, ap, sym, ◌∙◌, inl, inr, arith}
+use Rattle.std.proofs.Common.{◌≡◌, ℕ, zero, suc, ◌+◌, Bool, true, false, not, List, [], ◌∷◌, drop, refl, ap, sym, ◌∙◌, inl, inr, arith}
 use Rattle.std.specs.Prelude.{if◌then◌else◌}
 use Rattle.std.specs.List.{position_or_len, before_first, list_any}
-use Rattle.std.proofs.lemmas.Bool.{cases_Bool}
+use Rattle.std.proofs.lemmas.Bool.{cases_Bool, or_parts}
 use Rattle.stim_lexer.specs.declared.line.Braces.TheVariants.{NoBrace, OpeningLast, Misplaced}
 use Rattle.stim_lexer.specs.Bytes.{after_blanks, is_blank, is_brace, is_empty, is_hash, is_open_brace, from_first}
 use Rattle.stim_lexer.specs.Cut.{after_brackets, after_name, after_opening, braces_in, has_opening, has_opening_last}
 use Rattle.stim_lexer.proofs.ScanLemmas.{list_any-from_first}
 
-pub or-left : (a b : Bool) → (a || b) ≡ false → a ≡ false
-or-left true b h = h
-or-left false b h = refl
-
-pub or-right : (a b : Bool) → (a || b) ≡ false → b ≡ false
-or-right true b h = cc
-or-right false b h = h
-
 pub none_behind : (p : ℕ → Bool) (n : ℕ) (text : List ℕ) → list_any p text ≡ false → list_any p (drop n text) ≡ false
 none_behind p zero text h = h
 none_behind p (suc n) [] h = refl
-none_behind p (suc n) (b ∷ text) h = none_behind p n text (or-right (p b) (list_any p text) h)
+none_behind p (suc n) (b ∷ text) h = none_behind p n text (or_parts (p b) (list_any p text) h).1
 
 pub all_before : (p : ℕ → Bool) (text : List ℕ) → list_any p text ≡ false → before_first p text ≡ text
 all_before p [] h = refl
 all_before p (b ∷ text) h =
-    let none = or-left (p b) (list_any p text) h in
+    let parts = or_parts (p b) (list_any p text) h in
+    let none = parts.0 in
     let here : 1 + position_or_len p text ≡ suc (position_or_len p text) = omega arith in
-    rw (none, here) (ap (λ rest. b ∷ rest) (all_before p text (or-right (p b) (list_any p text) h)))
+    rw (none, here) (ap (λ rest. b ∷ rest) (all_before p text parts.1))
 
 empty_from : (rest : List ℕ) → not (is_empty rest) ≡ false → rest ≡ []
 empty_from [] h = refl
@@ -48,8 +41,9 @@ none_after_name p line h = none_behind p _ (after_blanks line) (none_behind p _ 
 pub open_nowhere : (body : List ℕ) → list_any is_brace body ≡ false → list_any is_open_brace body ≡ false
 open_nowhere [] h = refl
 open_nowhere (b ∷ body) h =
-    let here = or-left (is_open_brace b) _ (or-left (is_brace b) (list_any is_brace body) h) in
-    rw here (open_nowhere body (or-right (is_brace b) (list_any is_brace body) h))
+    let parts = or_parts (is_brace b) (list_any is_brace body) h in
+    let here = (or_parts (is_open_brace b) _ parts.0).0 in
+    rw here (open_nowhere body parts.1)
 
 braces_told : (some last : Bool) → (if not some then NoBrace else (if last then OpeningLast else Misplaced)) ≡ NoBrace → some ≡ false
 braces_told false last h = refl
@@ -59,10 +53,6 @@ braces_told true false h = cc
 pub brace_nowhere : (closes : Bool) (body : List ℕ) → braces_in closes body ≡ NoBrace → list_any is_brace body ≡ false
 brace_nowhere true body h = cc
 brace_nowhere false body h = braces_told (list_any is_brace body) (has_opening_last body) h
-
-pub is_false : (b : Bool) → not b ≡ true → b ≡ false
-is_false true h = cc
-is_false false h = refl
 
 blank_is_no_hash : (b : ℕ) → is_blank b ≡ true → is_hash b ≡ false
 blank_is_no_hash b h = grind arith

@@ -1,20 +1,7 @@
--- Questions of which none applies, and the tests that they are made of.
-use Rattle.std.proofs.Common.{◌≡◌, ℕ, ◌<◌, ◌==◌, Bool, true, false, not, ◌||◌, List, [], ◌∷◌, ◌++◌, None, refl, arith}
+-- Questions of which none applies.
+use Rattle.std.proofs.Common.{◌≡◌, ℕ, ◌<◌, ◌==◌, Bool, true, false, List, [], ◌∷◌, ◌++◌, None, refl, arith}
 use Rattle.std.specs.Prelude.{⊤, find, option_map, nat_le}
-use Rattle.std.proofs.lemmas.Bool.{true≢false}
 use Rattle.step_model.specs.declared.fault.Cause.{Cause}
-
--- ---- tests
-
-pub neither : (a b : Bool) → (a || b) ≡ false → (a ≡ false) × (b ≡ false)
-neither true b h = absurd (true≢false h)
-neither false b h = (refl, h)
-
-pub not_not : (b : Bool) → not b ≡ false → b ≡ true
-not_not true h = refl
-not_not false h = absurd (true≢false h)
-
--- ---- questions
 
 abbrev pub NoneApplies : List (Bool × Cause) → Type 0
 NoneApplies [] = ⊤

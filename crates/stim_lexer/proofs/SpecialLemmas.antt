@@ -1,47 +1,31 @@
 -- A line without special bytes has no bad byte, no brace and no comment, and what is cut from it has none either.
-use Rattle.std.proofs.Common.{◌≡◌, ℕ, zero, suc, ◌≤◌, ◌==◌, Bool, true, false, not, ◌&&◌, ◌||◌, List, [], ◌∷◌, take, refl, ap, arith}
+use Rattle.std.proofs.Common.{◌≡◌, ℕ, zero, suc, ◌≤◌, ◌==◌, Bool, true, false, not, List, [], ◌∷◌, take, refl, ap, arith}
 use Rattle.std.specs.Int.{is_in_range}
 use Rattle.std.specs.List.{list_any}
-use Rattle.std.proofs.lemmas.Bool.{eqb-true, leb-true, le-leb, false_from_ne_true}
+use Rattle.std.proofs.lemmas.Bool.{and_parts, eqb-true, false_from_ne_true, le-leb, leb-true, not-false, or_parts, or_right}
 use Rattle.stim_lexer.specs.Bytes.{after_blanks, is_bad_byte, is_blank, is_brace, is_close_bracket, is_hash, is_open_bracket}
 use Rattle.stim_lexer.specs.Cut.{after_brackets, after_name, body_of, has_bad_byte, name_of}
 use Rattle.stim_lexer.specs.private.Special.{is_special}
-use Rattle.stim_lexer.proofs.Nowhere.{none_after_brackets, none_after_name, none_behind, or-left, or-right}
+use Rattle.stim_lexer.proofs.Nowhere.{none_after_brackets, none_after_name, none_behind}
 
 -- ---- a byte
 
-and-left : (a b : Bool) → (a && b) ≡ true → a ≡ true
-and-left true b h = refl
-and-left false b h = cc
-
-and-right : (a b : Bool) → (a && b) ≡ true → b ≡ true
-and-right true b h = h
-and-right false b h = cc
-
-or-true : (a b : Bool) → b ≡ true → (a || b) ≡ true
-or-true true b h = refl
-or-true false b h = h
-
-not-false : (b : Bool) → not b ≡ false → b ≡ true
-not-false true h = refl
-not-false false h = cc
-
 in_range : (b : ℕ) → is_special b ≡ false → is_in_range 32 122 b ≡ true
-in_range b h = not-false _ (or-left (not (is_in_range 32 122 b)) (is_hash b) h)
+in_range b h = not-false _ (or_parts (not (is_in_range 32 122 b)) (is_hash b) h).0
 
 at_least : (b : ℕ) → is_special b ≡ false → 32 ≤ b
-at_least b h = leb-true 32 b (and-left _ _ (in_range b h))
+at_least b h = leb-true 32 b (and_parts _ _ (in_range b h)).0
 
 at_most : (b : ℕ) → is_special b ≡ false → b ≤ 122
-at_most b h = leb-true b 122 (and-right _ _ (in_range b h))
+at_most b h = leb-true b 122 (and_parts _ _ (in_range b h)).1
 
 not_hash : (b : ℕ) → is_special b ≡ false → is_hash b ≡ false
-not_hash b h = or-right (not (is_in_range 32 122 b)) (is_hash b) h
+not_hash b h = (or_parts (not (is_in_range 32 122 b)) (is_hash b) h).1
 
 not_bad : (b : ℕ) → is_special b ≡ false → is_bad_byte b ≡ false
 not_bad b h =
     let low : is_in_range 32 126 b ≡ true = rw (le-leb 32 b (at_least b h), le-leb b 126 (let m = at_most b h in omega arith)) refl in
-    ap not (or-true (is_blank b) _ low)
+    ap not (or_right (is_blank b) _ low)
 
 not_equal : (b c : ℕ) → b ≤ 122 → 123 ≤ c → (b == c) ≡ false
 not_equal b c h k = false_from_ne_true _ (λ e. let same = eqb-true b c e in absurd (omega arith))
@@ -56,13 +40,15 @@ not_brace b h =
 none_of : (p : ℕ → Bool) (weaker : (b : ℕ) → is_special b ≡ false → p b ≡ false) (text : List ℕ) → list_any is_special text ≡ false → list_any p text ≡ false
 none_of p weaker [] h = refl
 none_of p weaker (b ∷ text) h =
-    rw (weaker b (or-left (is_special b) (list_any is_special text) h)) (none_of p weaker text (or-right (is_special b) (list_any is_special text) h))
+    let parts = or_parts (is_special b) (list_any is_special text) h in rw (weaker b parts.0) (none_of p weaker text parts.1)
 
 none_in_front : (p : ℕ → Bool) (n : ℕ) (text : List ℕ) → list_any p text ≡ false → list_any p (take n text) ≡ false
 none_in_front p zero text h = refl
 none_in_front p (suc n) [] h = refl
 none_in_front p (suc n) (b ∷ text) h =
-    rw (or-left (p b) (list_any p text) h) (none_in_front p n text (or-right (p b) (list_any p text) h))
+    let parts = or_parts (p b) (list_any p text) h in
+    let here = parts.0 in
+    rw here (none_in_front p n text parts.1)
 
 -- ---- a line, and what is cut from it
 

@@ -3,9 +3,8 @@ use Rattle.std.proofs.Common.{◌≡◌, ℕ, ◌==◌, Bool, true, false, not, 
 use Rattle.std.specs.Prelude.{⊤}
 use Rattle.std.specs.Char.{is_ascii_digit}
 use Rattle.std.specs.List.{list_all, list_any, slice_split}
-use Rattle.std.proofs.lemmas.Bool.{and_from, and_parts, cases_Bool, eqb-true, false≢true, or_from}
+use Rattle.std.proofs.lemmas.Bool.{and_from, and_parts, cases_Bool, eqb-true, false≢true, not-false, or_from, or_parts}
 use Rattle.stim_lexer.specs.Bytes.{after_blanks, is_close_parenthesis, is_empty}
-use Rattle.stim_lexer.proofs.QuestionLemmas.{neither, not_not}
 use Rattle.stim_parser.specs.declared.forms.ArgumentForm.{ArgumentForm}
 use Rattle.stim_parser.specs.declared.forms.ArgumentForm.TheVariants.{NoArguments, ProbabilityAtWill, OneProbability, WholeNumbers, Decimals, OneNumber}
 use Rattle.stim_parser.specs.Arguments.{arguments_in, is_comma, trimmed}
@@ -120,16 +119,16 @@ none_are_words (a ∷ arguments) h = absurd (omega (arith, eqb-true (length (a �
 
 all_taken : (form : ArgumentForm) (arguments : List (List ℕ)) → has_wrong_arguments form arguments ≡ false → list_all (is_argument form) arguments ≡ true
 unfolding has_wrong_arguments
-all_taken form arguments h = not_not _ (neither _ _ h).1
+all_taken form arguments h = not-false _ (or_parts _ _ h).1
 
 all_probable : (arguments : List (List ℕ)) → list_all is_probability arguments ≡ true → AreWords arguments
 all_probable arguments h = words-where is_probability arguments accepted_is_word h
 
 pub arguments_are_words : (form : ArgumentForm) (arguments : List (List ℕ)) → has_wrong_arguments form arguments ≡ false → has_wrong_probability form arguments ≡ false → AreWords arguments
 unfolding has_wrong_arguments has_wrong_probability
-arguments_are_words NoArguments arguments h k = none_are_words arguments (not_not _ (neither _ _ h).0)
-arguments_are_words ProbabilityAtWill arguments h k = all_probable arguments (not_not _ k)
-arguments_are_words OneProbability arguments h k = all_probable arguments (not_not _ k)
+arguments_are_words NoArguments arguments h k = none_are_words arguments (not-false _ (or_parts _ _ h).0)
+arguments_are_words ProbabilityAtWill arguments h k = all_probable arguments (not-false _ k)
+arguments_are_words OneProbability arguments h k = all_probable arguments (not-false _ k)
 arguments_are_words WholeNumbers arguments h k = words-where is_whole_number arguments whole_is_word (all_taken WholeNumbers arguments h)
 arguments_are_words Decimals arguments h k = words-where is_decimal arguments coordinate_is_word (all_taken Decimals arguments h)
 arguments_are_words OneNumber arguments h k = words-where is_number arguments number_is_word (all_taken OneNumber arguments h)

@@ -2,10 +2,9 @@
 use Rattle.std.proofs.Common.{◌≡◌, ℕ, ◌<◌, true, false, List, [], ◌∷◌, Some, ap, sym, ◌∙◌, refl, arith}
 use Rattle.std.specs.Prelude.{unwrap_or}
 use Rattle.std.specs.List.{list_any}
-use Rattle.std.proofs.lemmas.Bool.{ltb-false}
+use Rattle.std.proofs.lemmas.Bool.{ltb-false, or_parts}
 use Rattle.stim_lexer.specs.Cut.{Cut}
 use Rattle.stim_lexer.specs.Fitting.{IsTurns, LinesFit}
-use Rattle.stim_lexer.proofs.QuestionLemmas.{neither}
 use Rattle.stim_parser.specs.declared.forms.TargetForm.{TargetForm}
 use Rattle.stim_parser.specs.declared.forms.TargetForm.TheVariants.{Turns}
 use Rattle.stim_parser.specs.declared.operation.Operation.{Operation}
@@ -31,7 +30,7 @@ none_read form text e = rw e refl
 -- the turns of a block are its first target
 few_turns : (targets : List Target) → list_any (is_target_beyond Turns) targets ≡ false → 0 < turns_of targets → IsTurns (turns_of targets)
 few_turns [] h some = absurd (omega (arith, some))
-few_turns (Plain n ∷ rest) h some = (some, ltb-false greatest_number n (neither _ _ h).0)
+few_turns (Plain n ∷ rest) h some = (some, ltb-false greatest_number n (or_parts _ _ h).0)
 few_turns (Inverted q ∷ rest) h some = absurd (omega (arith, some))
 few_turns (Back k ∷ rest) h some = absurd (omega (arith, some))
 few_turns (Pauli inverted l q ∷ rest) h some = absurd (omega (arith, some))
@@ -46,7 +45,7 @@ takes_fitting depth number operation cut e h =
     record {
       taken = taken circuit_table depth number operation cut h;
       no_targets = none_read (target_form (Does operation)) cut.targets;
-      count = (neither _ _ h.1.1.1.1.0).1;
+      count = (or_parts _ _ h.1.1.1.1.0).1;
       different = h.1.1.1.1.1.0;
       operation_written = named_written operation cut e;
       targets_written = targets_written (target_form (Does operation)) cut.targets;

@@ -1,9 +1,10 @@
 -- What detectors state and shifts add are at most 16 coordinates, each within its limit, and they can be read.
-use Rattle.std.proofs.Common.{◌≡◌, ◌≤◌, ℕ, zero, suc, ℤ, pos, neg_ℤ, Bool, true, false, not, ◌&&◌, ltb, List, [], ◌∷◌, length, map, None, Some, refl, ap, ap₂, arith}
+use Rattle.std.proofs.Common.{◌≡◌, ◌≤◌, ℕ, ℤ, Bool, true, false, not, ◌&&◌, ltb, List, [], ◌∷◌, length, map, None, Some, refl, ap, ap₂, arith}
 use Rattle.std.specs.Prelude.{⊤, All, nat_abs, nat_le, if◌then◌else◌, unwrap_or}
 use Rattle.std.specs.List.{list_all, list_any}
 use Rattle.std.proofs.lemmas.Bool.{ltb-false, or_parts}
 use Rattle.std.proofs.lemmas.List.Elements.{All-cons, All-nil}
+use Rattle.stim_parser.proofs.WholeNumberLemmas.{magnitude_kept}
 use Rattle.stim_parser.specs.declared.forms.ArgumentForm.TheVariants.{WholeNumbers}
 use Rattle.stim_parser.specs.declared.table.Keyword.TheVariants.{Does}
 use Rattle.stim_parser.specs.declared.operation.Operation.{Operation}
@@ -12,7 +13,7 @@ use Rattle.stim_parser.specs.Circuits.{Fits}
 use Rattle.stim_parser.specs.Coordinates.{coordinates_in, is_coordinate, is_coordinate_beyond, is_whole_number}
 use Rattle.stim_parser.specs.Instructions.{argument_form}
 use Rattle.stim_parser.specs.Limits.{has_argument_beyond, has_wrong_arguments, is_argument}
-use Rattle.stim_parser.specs.Numbers.{greatest_coordinate, has_minus, magnitude_of, whole_value}
+use Rattle.stim_parser.specs.Numbers.{greatest_coordinate, magnitude_of, whole_value}
 use Rattle.stim_parser.specs.Verdicts.{Instruction}
 
 -- coordinates of magnitudes up to a number
@@ -32,20 +33,12 @@ HasCoordinates DetectorDeclaration arguments = AreCoordinates arguments
 HasCoordinates CoordinateShift arguments = AreCoordinates arguments
 HasCoordinates operation arguments = ⊤
 
-minus-within : (m : ℕ) → m ≤ most → nat_abs (neg_ℤ (pos m)) ≤ most
-minus-within zero h = h
-minus-within (suc m) h = h
-
-value-within : (b : Bool) (m : ℕ) → m ≤ most → nat_abs (if b then neg_ℤ (pos m) else pos m) ≤ most
-value-within true m h = minus-within m h
-value-within false m h = h
-
 values-within : (arguments : List (List ℕ)) → list_any is_coordinate_beyond arguments ≡ false → AreUpTo most (map whole_value arguments)
 values-within [] h = All-nil (λ z. nat_abs z ≤ most)
 values-within (text ∷ arguments) h =
     let parts = or_parts (is_coordinate_beyond text) (list_any is_coordinate_beyond arguments) h in
     All-cons (λ z. nat_abs z ≤ most) (whole_value text) (map whole_value arguments)
-    (value-within (has_minus text) (magnitude_of text) (ltb-false most (magnitude_of text) parts.0))
+    (omega (arith, magnitude_kept text, ltb-false most (magnitude_of text) parts.0))
     (values-within arguments parts.1)
 
 and_parts : (a b : Bool) → not (a && b) ≡ false → (a ≡ true) × (not b ≡ false)

@@ -1,7 +1,7 @@
 -- What a line says that isn't refused: an instruction fits, a block has a turn, and as few as its targets may say, and stands
 -- where one more may be open, and a block is open where one is closed. Each question of the list was answered with no.
 use Rattle.std.proofs.Common.{◌≡◌, ℕ, ◌<◌, ◌==◌, false, if◌then◌else◌, List, ◌∷◌, Option, None, Some, refl, sym, inl, inr}
-use Rattle.std.proofs.lemmas.Bool.{cases_Bool, true≢false}
+use Rattle.std.proofs.lemmas.Bool.{cases_Bool, not-false, or_parts, true≢false}
 use Rattle.step_model.specs.declared.fault.Cause.{Cause}
 use Rattle.stim_lexer.specs.declared.line.Braces.{Braces}
 use Rattle.stim_lexer.specs.declared.line.Braces.TheVariants.{NoBrace, OpeningLast, ClosingAlone, Misplaced}
@@ -9,7 +9,7 @@ use Rattle.stim_lexer.specs.Cut.{Cut}
 use Rattle.stim_lexer.specs.Fitting.{IsTurns, ReadingAccords, ReadingFits}
 use Rattle.stim_lexer.specs.Instructions.{Instruction}
 use Rattle.stim_lexer.specs.Texts.{Closes, Refuses}
-use Rattle.stim_lexer.proofs.QuestionLemmas.{NoneApplies, neither, none_applies, none_behind, not_deep, not_not, not_zero}
+use Rattle.stim_lexer.proofs.QuestionLemmas.{NoneApplies, none_applies, none_behind, not_deep, not_zero}
 use Rattle.stim_parser.specs.declared.table.Causes.{Causes}
 use Rattle.stim_parser.specs.declared.table.Keyword.{Keyword}
 use Rattle.stim_parser.specs.declared.table.Keyword.TheVariants.{Does, Repeats}
@@ -29,11 +29,11 @@ pub taken : {O T F : Type 0} (table : Table O T F) (depth number : ℕ) (operati
     → IsAsTaken table (record { line = number; operation = operation; arguments = arguments_in cut.arguments; targets = read_targets table (table.target_form (Does operation)) cut.targets })
 taken table depth number operation cut h =
     record {
-      arguments = (neither _ _ h.0).1;
+      arguments = (or_parts _ _ h.0).1;
       probability = h.1.0;
-      arguments_within = (neither _ _ h.1.1.1.0).0;
-      targets = not_not _ (neither _ _ h.1.1.0).1;
-      targets_within = (neither _ _ h.1.1.1.0).1;
+      arguments_within = (or_parts _ _ h.1.1.1.0).0;
+      targets = not-false _ (or_parts _ _ h.1.1.0).1;
+      targets_within = (or_parts _ _ h.1.1.1.0).1;
     }
 
 -- turns fit that are some, by targets of which none is beyond its limit
@@ -47,7 +47,7 @@ named_fits table Fits TurnsFit fits opens depth number None cut e h = absurd (tr
 named_fits table Fits TurnsFit fits opens depth number (Some (Does operation)) cut e h = fits depth number operation cut e h
 named_fits table Fits TurnsFit fits opens depth number (Some Repeats) cut e h =
     let block = none_behind (table.refusals_of_targets (table.target_form Repeats) cut.targets (read_targets table (table.target_form Repeats) cut.targets)) _ h.1.1.1.1 in
-    (opens _ (neither _ _ h.1.1.1.0).1 (not_zero _ block.0), not_deep _ block.1.0)
+    (opens _ (or_parts _ _ h.1.1.1.0).1 (not_zero _ block.0), not_deep _ block.1.0)
 
 unless_fits : {O T F : Type 0} (table : Table O T F) (Fits : Instruction O T → Type 0) (TurnsFit : ℕ → Type 0) → TakesFitting table Fits → OpensFitting table TurnsFit → (depth number : ℕ) (cut : Cut) (refusal : Option Cause) → refusal ≡ refusal_of table depth cut
     → ReadingAccords Fits TurnsFit depth (unless_refused refusal (accepted table number (table.keyword_named cut.name) cut))

@@ -20,7 +20,7 @@ mod PieceValueLemmas
 mod SignificantLemmas
 pub mod FitLemmas
 pub mod CircuitFits
-mod WholeNumberLemmas
+pub mod WholeNumberLemmas
 mod WrittenLemmas
 pub mod TargetNumbers
 pub mod RecordTargets

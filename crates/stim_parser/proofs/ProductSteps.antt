@@ -1,5 +1,6 @@
 -- The steps of the loops that go over a product by two targets, a star and a factor.
 use Rattle.std.proofs.Common.{◌≡◌, ℕ, ◌-◌, ◌≤◌, Bool, true, false, not, ◌&&◌, ◌||◌, List, [], ◌∷◌, length, take, drop, get_or, refl, sym, ap, ap₂, ◌∙◌, arith}
+use Rattle.std.proofs.lemmas.Bool.{or_parts}
 use Rattle.std.proofs.lemmas.List.{take_rest}
 use Rattle.stim_parser.specs.declared.forms.TargetForm.TheVariants.{Products}
 use Rattle.stim_parser.specs.declared.target.Target.{Target}
@@ -23,15 +24,11 @@ cut_two (c ∷ d ∷ rest) a b h first second =
 
 -- ---- limits of targets
 
-neither : (a b : Bool) → (a || b) ≡ false → (a ≡ false) × (b ≡ false)
-neither false b e = (refl, e)
-neither true b e = absurd cc
-
 pub beyond-first : (a : Target) (rest left : List Target) → left ≡ a ∷ rest → has_target_beyond Products left ≡ false
     → (is_target_beyond Products a ≡ false) × (has_target_beyond Products rest ≡ false)
 unfolding has_target_beyond
 beyond-first a rest left cut none =
-    neither (is_target_beyond Products a) (has_target_beyond Products rest) (sym (ap (has_target_beyond Products) cut) ∙ none)
+    or_parts (is_target_beyond Products a) (has_target_beyond Products rest) (sym (ap (has_target_beyond Products) cut) ∙ none)
 
 pub beyond-second : (a b : Target) (rest left : List Target) → left ≡ a ∷ b ∷ rest → has_target_beyond Products left ≡ false
     → (is_target_beyond Products b ≡ false) × (has_target_beyond Products rest ≡ false)

@@ -2,7 +2,7 @@
 use Rattle.std.proofs.Common.{◌≡◌, ℕ, zero, suc, ◌+◌, ◌<◌, ◌≤◌, ℤ, pos, neg_ℤ, Bool, true, false, not, ◌&&◌, ◌||◌, List, [], ◌∷◌, ◌++◌, length, map, Option, None, Some, refl, sym, ap, ap₂, ◌∙◌, inl, inr, arith, length-append}
 use Rattle.std.specs.Prelude.{nat_abs, nat_le, nat_lt, if◌then◌else◌, MatchBool}
 use Rattle.std.specs.List.{list_all, list_any}
-use Rattle.std.proofs.lemmas.Bool.{cases_Bool}
+use Rattle.std.proofs.lemmas.Bool.{and_parts, cases_Bool}
 use Rattle.std.proofs.lemmas.List.{append-nil, length-map}
 use Rattle.stim_parser.specs.declared.forms.ArgumentForm.TheVariants.{WholeNumbers}
 use Rattle.stim_parser.specs.Coordinates.{coordinates_in, is_coordinate, is_coordinate_beyond, is_whole_number}
@@ -88,22 +88,19 @@ reads-done all read h =
 
 -- ---- their limit
 
-minus-abs : (m : ℕ) → nat_abs (neg_ℤ (pos m)) ≡ m
-minus-abs zero = refl
-minus-abs (suc m) = refl
-
-value-abs : (b : Bool) (m : ℕ) → nat_abs (if b then neg_ℤ (pos m) else pos m) ≡ m
-value-abs true m = minus-abs m
-value-abs false m = refl
+-- the magnitude of a whole number
+pub magnitude_kept : (text : List ℕ) → nat_abs (whole_value text) ≡ magnitude_of text
+magnitude_kept text = by (has_minus text) (magnitude_of text)
+  where
+    by : (b : Bool) (m : ℕ) → nat_abs (if b then neg_ℤ (pos m) else pos m) ≡ m
+    by true zero = refl
+    by true (suc m) = refl
+    by false m = refl
 
 pub any-beyond : (greatest : ℕ) (all : List (List ℕ)) → list_any (λ number. nat_lt greatest (nat_abs number)) (map whole_value all) ≡ has_argument_beyond greatest WholeNumbers all
 any-beyond greatest [] = refl
 any-beyond greatest (text ∷ all) =
-    ap₂ (λ (a b : Bool). a || b) (ap (λ (n : ℕ). nat_lt greatest n) (value-abs (has_minus text) (magnitude_of text))) (any-beyond greatest all)
-
-and_parts : (a b : Bool) → (a && b) ≡ true → (a ≡ true) × (b ≡ true)
-and_parts true b h = (refl, h)
-and_parts false b h = absurd cc
+    ap₂ (λ (a b : Bool). a || b) (ap (λ (n : ℕ). nat_lt greatest n) (magnitude_kept text)) (any-beyond greatest all)
 
 or_not : (a b : Bool) → (not a && not b) ≡ not (a || b)
 or_not true b = refl

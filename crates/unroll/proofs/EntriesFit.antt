@@ -1,7 +1,7 @@
 -- Each entry of a circuit fits: its probability is one that is accepted, with its bound, and its letters are at qubits of the
 -- circuit.
-use Rattle.std.proofs.Common.{◌≡◌, ℕ, ◌<◌, ◌≤◌, ◌==◌, true, not, List, [], ◌∷◌, length, map, Option, None, Some, refl, arith}
-use Rattle.std.specs.Prelude.{All, is_some, unwrap_or}
+use Rattle.std.proofs.Common.{◌≡◌, ℕ, ◌<◌, ◌≤◌, ◌==◌, true, not, List, [], ◌∷◌, length, map, refl, arith}
+use Rattle.std.specs.Prelude.{All}
 use Rattle.std.specs.List.{list_all}
 use Rattle.std.proofs.lemmas.Bool.{and_parts, not-false, or_parts}
 use Rattle.std.proofs.lemmas.List.Elements.{All-cons, All-nil}
@@ -25,15 +25,12 @@ use Rattle.unroll.specs.Totals.{qubits_to, qubit_total, first_argument}
 use Rattle.unroll.specs.private.MadeTotals.{qubits_named}
 use Rattle.unroll.proofs.KeptParts.{all_parts}
 use Rattle.unroll.proofs.QubitsWithin.{FitsOn, circuit_fits_on}
+use Rattle.unroll.proofs.NumberLemmas.{bound_is}
 
 -- ---- probabilities
 
-some_bound : (o : Option ℕ) → is_some o ≡ true → o ≡ Some (unwrap_or o 0)
-some_bound None h = absurd cc
-some_bound (Some b) h = refl
-
 entry_fits : (n : ℕ) (terms : List Term) (probability : List ℕ) → is_probability probability ≡ true → TermsFit n terms → EntryFits n (entry_of terms probability)
-entry_fits n terms probability h fit = record { bound = some_bound (probability_bound probability) h; terms = fit }
+entry_fits n terms probability h fit = record { bound = bound_is (probability_bound probability) h; terms = fit }
 
 flips_fit : (n : ℕ) (arguments : List (List ℕ)) → list_all is_probability arguments ≡ true → All (EntryFits n) (flip_entries arguments)
 flips_fit n [] h = All-nil (EntryFits n)

@@ -1,7 +1,6 @@
 -- Where no line reaches back before the first record, each target reaches back by as many records at most as there are.
-use Rattle.std.proofs.Common.{◌≡◌, ℕ, zero, suc, ◌+◌, ◌*◌, ◌<◌, ◌≤◌, Bool, true, false, List, [], ◌∷◌, ◌++◌, Option, None, Some, refl, sym, subst, append_assoc, append-nil, arith}
-use Rattle.std.specs.Prelude.{⊤, All, if◌then◌else◌}
-use Rattle.std.specs.Option.{option_or}
+use Rattle.std.proofs.Common.{◌≡◌, ℕ, zero, suc, ◌+◌, ◌*◌, ◌<◌, ◌≤◌, false, List, [], ◌∷◌, ◌++◌, None, sym, subst, append_assoc, append-nil, arith}
+use Rattle.std.specs.Prelude.{⊤, All}
 use Rattle.std.proofs.lemmas.Bool.{ltb-false}
 use Rattle.stim_parser.specs.declared.target.Target.{Target}
 use Rattle.stim_parser.specs.declared.target.Target.TheVariants.{Back}
@@ -17,6 +16,7 @@ use Rattle.unroll.specs.Refusals.{is_before_start, reaches_far}
 use Rattle.unroll.specs.private.Counted.{first_far_from}
 use Rattle.unroll.specs.private.MadeTotals.{record_count}
 use Rattle.stim_lexer.specs.Reached.{total}
+use Rattle.unroll.proofs.RefusalLemmas.{neither, not_first}
 
 -- ---- what holds of each instruction of a tree, and of items
 
@@ -54,15 +54,7 @@ near_targets : (r n : ℕ) (ts : List Target) → r ≤ n → reaches_far r ts �
 near_targets r n ts le h =
     none_passes (λ t. back_of t ≤ n) (is_before_start r) ts (λ t near. omega (arith, near_target r t near, le)) h
 
-split_if : (b : Bool) (line : ℕ) (rest : Option ℕ) → (if b then Some line else rest) ≡ None → (b ≡ false) × (rest ≡ None)
-split_if true line rest h = absurd cc
-split_if false line rest h = (refl, h)
-
-split_or : (f g : Option ℕ) → option_or f g ≡ None → (f ≡ None) × (g ≡ None)
-split_or None g h = (refl, h)
-split_or (Some line) g h = absurd cc
-
-more_turns : (turns b : ℕ) → 0 < turns → b ≤ turns * b
+pub more_turns : (turns b : ℕ) → 0 < turns → b ≤ turns * b
 more_turns zero b h = absurd (omega (arith, h))
 more_turns (suc m) b h = omega arith
 
@@ -70,9 +62,9 @@ pub near_tree : (t : Tree) (r n : ℕ) → AllFit t → first_far_from r t ≡ N
 unfolding first_far_from total
 near_tree Nothing r n fit h le = tt
 near_tree (Then i rest) r n fit h le =
-    let parts = split_if (reaches_far r i.targets) i.line (first_far_from (r + record_count i) rest) h in
+    let parts = not_first (reaches_far r i.targets) i.line (first_far_from (r + record_count i) rest) h in
     (near_targets r n i.targets (omega (arith, le)) parts.0, near_tree rest (r + record_count i) n fit.1 parts.1 (omega (arith, le)))
 near_tree (Block line turns body rest) r n fit h le =
-    let parts = split_or (first_far_from r body) (first_far_from (r + turns * total 0 record_count body) rest) h in
+    let parts = neither (first_far_from r body) (first_far_from (r + turns * total 0 record_count body) rest) h in
     let more = more_turns turns (total 0 record_count body) fit.0 in
     (near_tree body r n fit.1 parts.0 (omega (arith, le, more)), near_tree rest (r + turns * total 0 record_count body) n fit.2 parts.1 (omega (arith, le)))

@@ -28,7 +28,7 @@ use Rattle.unroll.proofs.RoomLemmas.{counted_once, counted_once-tree}
 
 -- ---- a number
 
-bound_is : (o : Option ℕ) → is_some o ≡ true → o ≡ Some (unwrap_or o 0)
+pub bound_is : (o : Option ℕ) → is_some o ≡ true → o ≡ Some (unwrap_or o 0)
 bound_is None h = absurd cc
 bound_is (Some b) h = refl
 

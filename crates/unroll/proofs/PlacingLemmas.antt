@@ -11,6 +11,7 @@ use Rattle.stim_parser.specs.declared.operation.Operation.TheVariants.{DetectorD
 use Rattle.stim_parser.specs.Circuits.{AllFit}
 use Rattle.stim_parser.specs.Numbers.{whole_value}
 use Rattle.stim_parser.specs.Trees.{Tree}
+use Rattle.step_model.proofs.MemberLemmas.{map_agree}
 use Rattle.stim_lexer.specs.Trees.{Nothing, Then, Block}
 use Rattle.stim_parser.specs.Verdicts.{Instruction}
 use Rattle.stim_parser.proofs.FewArguments.{HasFewCoordinates, has_few_coordinates}
@@ -120,10 +121,6 @@ given-moved u d p (i ∷ is) wide few =
     ∙ given-moved u d (placing.next p i) is (wide-next p i wide) few.1)
     ∙ sym (map-append (moved_to u d) (placing.gives p i) (given placing (placing.next p i) is))
 
-map-same : {X Y : Type 0} (f g : X → Y) (xs : List X) → ((x : X) → f x ≡ g x) → map f xs ≡ map g xs
-map-same f g [] h = refl
-map-same f g (x ∷ xs) h = ap₂ (λ y ys. y ∷ ys) (h x) (map-same f g xs h)
-
 onward-turns : (p : Offset) (n : ℕ) (s t : List ℕ) → placing.onward (suc n) p (offset (raised_by p.up s) (raised_by p.down t)) ≡ offset (raised_by p.up (scaled (suc n) s)) (raised_by p.down (scaled (suc n) t))
 onward-turns p n s t =
     let one : suc n - 1 ≡ n = omega arith in
@@ -199,7 +196,7 @@ steady p is wide few =
       gives = λ n.
           ap (λ (r : Offset). given placing r is) (place-turns p n is)
           ∙ given-moved (scaled (suc n) s) (scaled (suc n) t) p is wide few
-          ∙ map-same (moved_to (scaled (suc n) s) (scaled (suc n) t)) (placing.moved (suc n) p q) (given placing p is) (λ xs. sym (moved-turns p (suc n) s t xs high low wide))
+          ∙ map_agree (moved_to (scaled (suc n) s) (scaled (suc n) t)) (placing.moved (suc n) p q) (λ xs. sym (moved-turns p (suc n) s t xs high low wide)) (given placing p is)
           ∙ ap (λ (r : Offset). map (placing.moved (suc n) p r) (given placing p is)) (sym (place-summed p is));
     }
 

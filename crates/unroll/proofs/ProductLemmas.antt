@@ -5,6 +5,7 @@ use Rattle.std.proofs.Math.Dec.{eqb-suc-zero}
 use Rattle.std.proofs.lemmas.List.Elements.{All-tail}
 use Rattle.std.specs.List.{onto_first}
 use Rattle.pauli_word.specs.Parity.{exclusive_or}
+use Rattle.pauli_word.proofs.Parities.{exclusive_or-false, exclusive_or_assoc}
 use Rattle.programs.specs.declared.step.TextStep.{TextStep}
 use Rattle.programs.specs.declared.step.TextStep.TheVariants as step
 use Rattle.stim_parser.specs.declared.target.Target.{Target}
@@ -78,28 +79,18 @@ count-ended t after behind false f h = ap length (f.products t) ∙ omega arith
 
 -- ---- their steps
 
-xor-assoc : (a b c : Bool) → exclusive_or a (exclusive_or b c) ≡ exclusive_or (exclusive_or a b) c
-xor-assoc false b c = refl
-xor-assoc true false c = refl
-xor-assoc true true false = refl
-xor-assoc true true true = refl
-
 carried-onto : (inverted : Bool) (flip : Option ℕ) (p : ℕ) (t : Target) (ps : List (List Target)) → 0 < length ps → carried_steps inverted flip p (onto_first t ps) ≡ carried_steps (exclusive_or inverted (is_inverted t)) flip p ps
 carried-onto inverted flip p t [] h = absurd (omega (arith, h))
 carried-onto inverted flip p t (product ∷ ps) h =
     ap
     (λ (b : Bool). step.CollapseWord p (Some (recording b flip)) ∷ product_steps flip (p + 1) ps)
-    (xor-assoc inverted (is_inverted t) (is_product_inverted product))
+    (sym (exclusive_or_assoc inverted (is_inverted t) (is_product_inverted product)))
 
 pub carried-joined : (inverted : Bool) (flip : Option ℕ) (p : ℕ) (t : Target) (after behind : List Target) (joined : Bool) → FollowsFactor after joined behind → joined ≡ true → carried_steps inverted flip p (products_of (t ∷ after)) ≡ carried_steps (exclusive_or inverted (is_inverted t)) flip p (products_of behind)
 carried-joined inverted flip p t after behind true f h =
     ap (carried_steps inverted flip p) (f.products t)
     ∙ carried-onto inverted flip p t (products_of behind) (some_products behind (f.some refl))
 carried-joined inverted flip p t after behind false f h = absurd cc
-
-xor-false : (b : Bool) → exclusive_or b false ≡ b
-xor-false false = refl
-xor-false true = refl
 
 pub carried-none : (flip : Option ℕ) (p : ℕ) (ps : List (List Target)) → carried_steps false flip p ps ≡ product_steps flip p ps
 carried-none flip p [] = refl
@@ -109,7 +100,7 @@ pub carried-ended : (inverted : Bool) (flip : Option ℕ) (p : ℕ) (t : Target)
 carried-ended inverted flip p t after behind true f h = absurd cc
 carried-ended inverted flip p t after behind false f h =
     ap (carried_steps inverted flip p) (f.products t)
-    ∙ ap (λ (b : Bool). step.CollapseWord p (Some (recording (exclusive_or inverted b) flip)) ∷ product_steps flip (p + 1) (products_of behind)) (xor-false (is_inverted t))
+    ∙ ap (λ (b : Bool). step.CollapseWord p (Some (recording (exclusive_or inverted b) flip)) ∷ product_steps flip (p + 1) (products_of behind)) (exclusive_or-false (is_inverted t))
     ∙ ap (λ (steps : List TextStep). step.CollapseWord p (Some (recording (exclusive_or inverted (is_inverted t)) flip)) ∷ steps) (sym (carried-none flip (p + 1) (products_of behind)))
 
 -- ---- their letters

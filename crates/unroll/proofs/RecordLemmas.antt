@@ -1,9 +1,8 @@
 -- Records that lie further on in later turns: what names records by how far back they lie names those of its own turn,
 -- where nothing reaches back before the first record.
-use Rattle.std.proofs.Common.{◌≡◌, ℕ, zero, suc, ◌+◌, ◌-◌, ◌*◌, ◌≤◌, Bool, true, false, cond, ltb, List, [], ◌∷◌, ◌++◌, map, Option, None, Some, refl, sym, ap, ap₂, ◌∙◌, subst, arith}
+use Rattle.std.proofs.Common.{◌≡◌, ℕ, zero, suc, ◌+◌, ◌-◌, ◌*◌, ◌≤◌, true, false, ltb, List, [], ◌∷◌, ◌++◌, map, None, refl, sym, ap, ap₂, ◌∙◌, subst, arith}
 use Rattle.std.specs.Prelude.{⊤}
 use Rattle.std.specs.List.{list_all}
-use Rattle.std.specs.Option.{option_or}
 use Rattle.std.proofs.lemmas.Bool.{ltb-false, or_parts}
 use Rattle.std.proofs.lemmas.List.{map-append}
 use Rattle.stim_parser.specs.declared.operation.Operation.{Operation}
@@ -22,6 +21,7 @@ use Rattle.unroll.specs.Refusals.{reaches_far}
 use Rattle.unroll.specs.private.Counted.{first_far_from}
 use Rattle.unroll.specs.private.MadeTotals.{record_count}
 use Rattle.unroll.proofs.GatherLemmas.{AreSteady, IsSteady}
+use Rattle.unroll.proofs.RefusalLemmas.{neither, not_first}
 
 -- ---- how many records instructions make
 
@@ -108,23 +108,15 @@ near-of r o ts h k = tt
 near-one : (r : ℕ) (i : Instruction) → Fits i → reaches_far r i.targets ≡ false → IsNear r i.operation i.targets
 near-one r i fits near = near-of r i.operation i.targets (names_records i fits) near
 
-if_none : (b : Bool) (line : ℕ) (rest : Option ℕ) → cond b (Some line) rest ≡ None → (b ≡ false) × (rest ≡ None)
-if_none true line rest h = absurd cc
-if_none false line rest h = (refl, h)
-
-or_none : (a b : Option ℕ) → option_or a b ≡ None → (a ≡ None) × (b ≡ None)
-or_none None b h = (refl, h)
-or_none (Some line) b h = absurd cc
-
 -- a circuit none of whose lines reaches too far
 pub near-tree : (r : ℕ) (t : Tree) → AllFit t → first_far_from r t ≡ None → AreNear r (reached t)
 unfolding first_far_from
 near-tree r Nothing fit h = tt
 near-tree r (Then i rest) fit h =
-    let parts = if_none (reaches_far r i.targets) i.line (first_far_from (r + record_count i) rest) h in
+    let parts = not_first (reaches_far r i.targets) i.line (first_far_from (r + record_count i) rest) h in
     (near-one r i fit.0 parts.0, near-tree (r + record_count i) rest fit.1 parts.1)
 near-tree r (Block line turns body rest) fit h =
-    let parts = or_none (first_far_from r body) (first_far_from (r + turns * total 0 record_count body) rest) h in
+    let parts = neither (first_far_from r body) (first_far_from (r + turns * total 0 record_count body) rest) h in
     let count : turns * total 0 record_count body ≡ counted (copies turns (reached body)) = ap (λ n. turns * n) (sym (counted-reached body)) ∙ sym (counted-copies turns (reached body)) in
     near-append r (copies turns (reached body)) (reached rest) (near-copies turns r (reached body) (near-tree r body fit.1 parts.0))
     (subst (λ (n : ℕ). AreNear (r + n) (reached rest)) count (near-tree (r + turns * total 0 record_count body) rest fit.2 parts.1))
@@ -177,10 +169,10 @@ pub are_steady : {X : Type 0} (g : Gathering ℕ X) (shift : ℕ → X → X) �
 unfolding first_far_from
 are_steady g shift moves r Nothing fit h = tt
 are_steady g shift moves r (Then i rest) fit h =
-    let parts = if_none (reaches_far r i.targets) i.line (first_far_from (r + record_count i) rest) h in
+    let parts = not_first (reaches_far r i.targets) i.line (first_far_from (r + record_count i) rest) h in
     subst (λ (n : ℕ). AreSteady g n rest) (sym (moves.next r i)) (are_steady g shift moves (r + record_count i) rest fit.1 parts.1)
 are_steady g shift moves r (Block line turns body rest) fit h =
-    let parts = or_none (first_far_from r body) (first_far_from (r + turns * total 0 record_count body) rest) h in
+    let parts = neither (first_far_from r body) (first_far_from (r + turns * total 0 record_count body) rest) h in
     let count : turns * total 0 record_count body ≡ counted (copies turns (reached body)) = ap (λ n. turns * n) (sym (counted-reached body)) ∙ sym (counted-copies turns (reached body)) in
     let behind : r + turns * total 0 record_count body ≡ place_behind g r (copies turns (reached body)) = ap (λ n. r + n) count ∙ sym (place-counted g shift moves r (copies turns (reached body))) in (
       fit.0,

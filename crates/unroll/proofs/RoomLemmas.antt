@@ -1,5 +1,5 @@
 -- What is kept of each instruction that is written is counted among a circuit's steps.
-use Rattle.std.proofs.Common.{ℕ, zero, suc, ◌+◌, ◌*◌, ◌<◌, ◌≤◌, List, [], ◌∷◌, ◌++◌, length, map, ap, append_assoc, append-nil, arith}
+use Rattle.std.proofs.Common.{ℕ, ◌+◌, ◌≤◌, List, [], ◌∷◌, ◌++◌, length, map, ap, append_assoc, append-nil, arith}
 use Rattle.std.proofs.lemmas.List.{length-map}
 use Rattle.stim_parser.specs.declared.operation.Operation.{Operation}
 use Rattle.stim_parser.specs.declared.operation.Operation.TheVariants.{ProductMeasurement}
@@ -16,6 +16,7 @@ use Rattle.stim_parser.specs.Limits.{products_of}
 use Rattle.unroll.specs.Totals.{step_total, target_count}
 use Rattle.unroll.specs.private.MadeTotals.{step_count}
 use Rattle.stim_lexer.specs.Reached.{total}
+use Rattle.unroll.proofs.FarLemmas.{more_turns}
 
 -- ---- one instruction
 
@@ -35,10 +36,6 @@ counted_once (InstructionLine i ∷ items) = step_count i + counted_once items
 counted_once (BlockStart line turns ∷ items) = counted_once items
 counted_once (BlockEnd ∷ items) = counted_once items
 
-one_turn : (turns n : ℕ) → 0 < turns → n ≤ turns * n
-one_turn zero n h = absurd (omega (arith, h))
-one_turn (suc m) n h = omega arith
-
 once_before : (t : Tree) (rest : List Item) → AllFit t → counted_once (items_of t ++ rest) ≤ total 1 step_count t + counted_once rest
 unfolding total
 once_before Nothing rest fit = omega arith
@@ -47,7 +44,7 @@ once_before (Block line turns t u) rest fit =
     let items = append_assoc (items_of t) (BlockEnd ∷ items_of u) rest in
     let body = once_before t (BlockEnd ∷ (items_of u ++ rest)) fit.1 in
     let behind = once_before u rest fit.2 in
-    let turn = one_turn turns (1 + total 1 step_count t) fit.0 in
+    let turn = more_turns turns (1 + total 1 step_count t) fit.0 in
     omega (arith, ap counted_once items, body, behind, turn)
 
 pub counted_once-tree : (t : Tree) → AllFit t → counted_once (items_of t) ≤ step_total t

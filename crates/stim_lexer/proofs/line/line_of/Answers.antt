@@ -1,9 +1,10 @@
 use Rattle.std.proofs.Common.{◌≡◌, Bool, ◌||◌, sym, ◌∙◌, ap}
+use Rattle.std.proofs.lemmas.Bool.{not-true}
 use Rattle.std.specs.List.{before_first, list_any}
 use Rattle.stim_lexer.specs.Bytes.{is_brace, is_open_brace, is_open_parenthesis, is_close_parenthesis}
 use Rattle.stim_lexer.specs.Cut.{leaves_open, leaves_tag_open, braces_in}
 use Rattle.stim_lexer.proofs.LexingLemmas.{cut_of-is}
-use Rattle.stim_lexer.proofs.Nowhere.{brace_nowhere, is_false, none_after_brackets, open_nowhere}
+use Rattle.stim_lexer.proofs.Nowhere.{brace_nowhere, none_after_brackets, open_nowhere}
 use Rattle.stim_lexer.proofs.SpecialLemmas.{no_brace_in_body}
 use Rattle.stim_lexer.proofs.line.line_of.Goals as goal
 use Rattle.stim_lexer.proofs.line.line_of.Goals.{then-parts, else-parts}
@@ -35,4 +36,4 @@ before_byte-requires c braceless =
 pub braces_in-braces-requires : goal.braces_in-braces-requires
 braces_in-braces-requires c plain =
     ap (list_any is_brace) c.requires.body
-    ∙ no_brace_in_body c.args.line.now (sym c.requires.special ∙ is_false c.args.parts.special plain)
+    ∙ no_brace_in_body c.args.line.now (sym c.requires.special ∙ not-true c.args.parts.special plain)
