@@ -9,7 +9,7 @@ use Rattle.pauli_word.specs.Parity.{exclusive_or}
 use Rattle.pauli_word.specs.Words.{anticommute}
 use Rattle.pauli_word.proofs.Parities.{exclusive_or-false}
 use Rattle.step_model.specs.Hits.{hits_at, hits_among}
-use Rattle.step_model.specs.Listing.{Listing, ListedStep, One, Two, Collapse, Fault, Feedback, Recorded, fault_word}
+use Rattle.step_model.specs.Listing.{Listing, ListedStep, One, Two, Collapse, Fault, Feedback, fault_word}
 use Rattle.step_model.specs.Sensitivities.{Sensitivity, sensitivity}
 use Rattle.step_model.specs.Targets.{is_listed}
 use Rattle.step_model.specs.WellFormed.{faults_named, step_faults}

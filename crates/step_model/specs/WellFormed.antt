@@ -8,7 +8,6 @@ use Rattle.std.specs.List.{range_with_len, AllPass, list_any}
 use Rattle.std.specs.Option.{option_to_list}
 use Rattle.gate_table.specs.Images.{arity_of}
 use Rattle.pauli_word.specs.declared.letter.Letter.{Letter}
-use Rattle.pauli_word.specs.declared.letter.Letter.TheVariants.{I}
 use Rattle.step_model.specs.Listing.{Listing, ListedStep, One, Two, Collapse, Fault, Feedback, Measured, Word, Reset, Recorded, ListedFault, Effect, Applies, Flips, effect_at, word_of_terms, is_I, is_collapse, step_records}
 use Rattle.step_model.specs.declared.step.Term.{Term}
 use Rattle.step_model.specs.Probabilities.{probability_bound}

@@ -7,13 +7,13 @@ use Rattle.std.proofs.lemmas.Bool.{eqb-true, ltb-true, ltb-false, lt-ltb, le-ltb
 use Rattle.step_model.proofs.MemberLemmas.{filter_range_agree, filter_range_taken, filter_range_left, set-map-range}
 use Rattle.std.proofs.lemmas.List.{drop_all, drop_more, reverse-append}
 use Rattle.pauli_word.specs.Parity.{exclusive_or}
-use Rattle.pauli_word.proofs.Parities.{exclusive_or-false, exclusive_or_assoc, exclusive_or_left_comm}
+use Rattle.pauli_word.proofs.Parities.{exclusive_or_assoc, exclusive_or_left_comm}
 use Rattle.step_model.specs.Targets.{is_listed}
 use Rattle.trackers.specs.private.Sets.{DescendsBelow, xor_step, xor_sets}
 use Rattle.step_model.specs.TargetSets.{members, row_of_set}
 use Rattle.step_model.proofs.RowLemmas.{get_or-row_of_set, length-row_of_set, none_added}
 use Rattle.bit_rows.specs.Rows.{xor_rows}
-use Rattle.std.proofs.lemmas.List.FromFn.{length-map-range_with_len, get_or-map-range_with_len}
+use Rattle.std.proofs.lemmas.List.FromFn.{length-map-range_with_len}
 
 pub xor_sets-nil : (xs : List ℕ) → xor_sets xs [] ≡ xs
 xor_sets-nil [] = refl

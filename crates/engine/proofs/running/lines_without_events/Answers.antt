@@ -1,4 +1,4 @@
-use Rattle.std.proofs.Common.{◌≡◌, ◌++◌, ◌∙◌, Bool, List, ap, ap₂, replicate, false, sym}
+use Rattle.std.proofs.Common.{◌++◌, ◌∙◌, Bool, List, ap, replicate, false, sym}
 use Rattle.frames.specs.Lines.{line_of}
 use Rattle.engine.proofs.QuietRuns.{no_events}
 use Rattle.engine.proofs.running.lines_without_events.Goals as goal

@@ -1,10 +1,9 @@
 -- Line by line.
-use Rattle.std.proofs.Common.{◌≡◌, ◌+◌, ◌-◌, ◌%◌, refl, sym, ap, subst, ◌∙◌, arith}
+use Rattle.std.proofs.Common.{◌≡◌, ◌+◌, refl, sym, ap, ◌∙◌, arith}
 use Rattle.step_model.proofs.Items.{Pushes-number}
 use Rattle.step_model.proofs.Pushing.{Pushes-nil}
 use Rattle.frames.specs.Lines.{line_of}
 use Rattle.frames.specs.private.LaneLines.{lane_line}
-use Rattle.frames.specs.private.Octets.{HoldLanes}
 use Rattle.frames.proofs.LineLemmas.{held_lane, held_on, last_below}
 use Rattle.frames.proofs.lines.push_each.Goals as goal
 
