@@ -3,6 +3,7 @@ mod analyses;
 mod arguments;
 mod batches;
 mod bits;
+mod by_name;
 mod coin_pairs;
 mod drawn_shots;
 mod faults;
