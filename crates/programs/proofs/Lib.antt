@@ -16,7 +16,13 @@ pub mod PlaceMoves
 pub mod Places
 pub mod ProductWords
 pub mod Reading
+pub mod TurnCounts
+pub mod TurnFaults
+pub mod TurnPlaces
+pub mod TurnSteps
+pub mod WalkCounts
 pub mod WalkSteps
+pub mod WalkTurns
 pub mod FoundLaws
 pub mod FaultOrders
 pub mod Walking

@@ -96,11 +96,13 @@ parts_are_well_kept parts fit = record { kept_fit = λ k d h. (fit.entries_fit k
 pub text_is_held : {A : Type 0} (parts : Parts A) → PartsFit parts → Held (kept_program parts) parts.nodes parts.steps parts.counts
 text_is_held parts fit =
     record {
+      written = refl;
       circuit = fit.circuit;
       feedback = fit.feedback;
       few_steps = fit.few_steps;
       steps_counted = fit.steps_counted;
       counted = fit.counted;
       steps = refl;
+      faults = refl;
       named = steps_are_named (kept_program parts) parts.entries refl no_counts (text_steps parts) [] refl refl (ap (λ (c : Counts). c.records) fit.counted) fit.feedback fit.texts_fit fit.all_kept;
     }

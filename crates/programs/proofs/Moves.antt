@@ -17,7 +17,7 @@ pub record Lifts (t u : Tree) (a b : ℕ) (outside : List ℕ) : Type 0 where
   pub step : (k : ℕ) (s : TextStep) → slice_get (unrolled t) k ≡ Some s → slice_get (unrolled u) (b + k) ≡ Some s
   pub deep : length outside + depth t ≤ depth u
 
-lifts_then : (s : TextStep) (rest : Tree) → Lifts rest (Then s rest) 1 1 []
+pub lifts_then : (s : TextStep) (rest : Tree) → Lifts rest (Then s rest) 1 1 []
 lifts_then s rest =
     record {
       place = λ i turns k h. inr (record { j = i; m = k; i_is = refl; k_is = refl; place = h });
@@ -37,7 +37,7 @@ lifts_body count body rest turn below =
       deep = omega arith;
     }
 
-lifts_rest : (count : ℕ) (body rest : Tree) → Lifts rest (Block count body rest) (length (nodes_of body) + 2) (count * length (unrolled body)) []
+pub lifts_rest : (count : ℕ) (body rest : Tree) → Lifts rest (Block count body rest) (length (nodes_of body) + 2) (count * length (unrolled body)) []
 lifts_rest count body rest =
     record {
       place = λ i turns k h. inr (inr (record { j = i; m = k; i_is = refl; k_is = refl; place = h }));

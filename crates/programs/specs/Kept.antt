@@ -4,6 +4,7 @@ use Rattle.std.specs.Prelude.{ℕ, All, List, [], Option, None, Some, slice_inde
 use Rattle.step_model.specs.declared.step.Term.{Term}
 use Rattle.step_model.specs.Listing.{Listing, Effect, Applies, Flips}
 use Rattle.step_model.specs.WellFormed.{TermsFit, ProductFits}
+use Rattle.programs.specs.declared.node.Node.{Node}
 
 -- what is kept of a fault: the text of its probability, the floor of that probability times 2^64, and the letters at
 -- qubits that it applies, none where it flips a record
@@ -12,9 +13,11 @@ pub record Kept : Type 0 where
   pub bound : ℕ
   pub terms : List Term
 
--- a program, and beside it what is kept of faults, and the products of letters that collapses measure
+-- a program, and beside it its circuit as it is written, with its blocks, what is kept of faults, and the products of
+-- letters that collapses measure
 pub record KeptProgram : Type 0 where
   pub listing : Listing
+  pub nodes : List Node
   pub kept : List Kept
   pub products : List (List Term)
 

@@ -9,6 +9,7 @@ pub mod Numbering
 pub mod Places
 pub mod Steps
 pub mod Trees
+pub mod Turns
 pub mod Walks
 pub mod Kept
 pub mod private

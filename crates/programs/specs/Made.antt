@@ -35,7 +35,7 @@ listing_of parts =
 
 -- the program with what parts keep of it
 abbrev pub kept_program : {A : Type 0} → Parts A → KeptProgram
-kept_program parts = record { listing = listing_of parts; kept = parts.entries; products = parts.products }
+kept_program parts = record { listing = listing_of parts; nodes = parts.nodes; kept = parts.entries; products = parts.products }
 
 -- an entry's bound is that of its text, and its letters are at the program's qubits
 pub record EntryFits (qubits : ℕ) (entry : Kept) : Type 0 where

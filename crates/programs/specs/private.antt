@@ -1,4 +1,5 @@
 pub mod Held
 pub mod KeptNodes
 pub mod Moves
+pub mod Turns
 pub mod WalkStates

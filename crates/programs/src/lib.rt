@@ -11,6 +11,7 @@ mod nodes;
 mod place;
 mod program;
 mod step;
+mod turns;
 mod walk;
 
 pub use builder::CircuitBuilder;

@@ -99,7 +99,10 @@ fn go_past_turns<const BACK: bool, A: Allocator + Copy>(nodes: &Nodes<A>, place:
 // Goes to a place before a step, as most places are, or to the end; or back to one after a step, or to the start. Answers
 // whether a step is ahead then.
 #[inline(always)]
-fn go_to_step<const BACK: bool, A: Allocator + Copy>(nodes: &Nodes<A>, place: &mut Place) -> bool
+pub fn go_to_step<const BACK: bool, A: Allocator + Copy>(
+    nodes: &Nodes<A>,
+    place: &mut Place,
+) -> bool
     requires { StandsIn nodes.now place.old }
     ensures moved { MovesTo nodes.now place.old place.new
         (node_ahead BACK nodes.now place.new.index) result }

@@ -1,7 +1,9 @@
-ghost use Rattle.std.specs.Prelude.{◌≡◌, ◌+◌, ◌-◌, ◌<◌, ◌≤◌, ◌==◌, ℕ, true, false, if◌then◌else◌, nat_lt, length, None, Some, IfSome, option_map, slice_get};
+ghost use Rattle.std.specs.Prelude.{◌≡◌, ◌+◌, ◌-◌, ◌<◌, ◌≤◌, ◌==◌, ℕ, true, false, if◌then◌else◌, nat_lt, length, None, Some, IfSome, option_map, slice_get, take};
 ghost use Rattle.step_model.specs.Listing.{Fault};
+ghost use Rattle.step_model.specs.WellFormed.{collapse_count};
 ghost use Rattle.programs.specs.Listed.{listed};
 ghost use Rattle.programs.specs.Named.{IsNamed, IsStepOf};
+ghost use Rattle.programs.specs.Turns.{records_before};
 ghost use Rattle.programs.specs.Walks.{PassesBack, is_fault};
 
 use crate::place::{Place, next, previous, previous_fault, previous_faults};
@@ -14,11 +16,11 @@ use std::marker::Model;
 /// A walk over the unrolled steps of a program, forward and back, over its blocks as they are kept.
 #[derive(Drop)]
 pub struct Walk<'a, 'p, A: Allocator + Copy> {
-    program: &'a Program<'p, A>,
-    text: Text<'a, A>,
-    place: Place,
-    counts: Counts,
-    steps: usize,
+    pub(crate) program: &'a Program<'p, A>,
+    pub(crate) text: Text<'a, A>,
+    pub(crate) place: Place,
+    pub(crate) counts: Counts,
+    pub(crate) steps: usize,
 }
 
 impl<'a, 'p, A: Allocator + Copy> Model for Walk<'a, 'p, A> {
@@ -92,6 +94,21 @@ impl<'a, 'p, A: Allocator + Copy> Walk<'a, 'p, A> {
         ensures { result ≡ self.now.place }
     {
         self.steps
+    }
+
+    /// How many records the steps before the place make.
+    pub fn records(&self) -> usize
+        ensures { result
+            ≡ records_before self.now.program.listing.steps self.now.place }
+    {
+        self.counts.records as usize
+    }
+
+    /// How many collapses are before the place.
+    pub fn collapses(&self) -> u32
+        ensures { result ≡ collapse_count (take self.now.place self.now.program.listing.steps) }
+    {
+        self.counts.collapses
     }
 
     /// Answers the step after this place and goes over it. None at the end, where nothing changes.

@@ -14,5 +14,6 @@ mod read_models;
 mod reader_ends;
 mod tableaus;
 mod texts;
+mod turns;
 mod walks;
 mod words;
