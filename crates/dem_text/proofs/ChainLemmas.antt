@@ -1,5 +1,5 @@
 -- Instructions in no block and with no shift among them, before what follows: the model of a text that writes them.
-use Rattle.std.proofs.Common.{◌≡◌, ℕ, false, ◌+◌, nat_lt, List, [], ◌∷◌, ◌++◌, append-nil, length, map, None, Ok, refl, ap, ap₂, sym, ◌∙◌, arith}
+use Rattle.std.proofs.Common.{◌≡◌, ℕ, false, nat_lt, List, [], ◌∷◌, ◌++◌, append-nil, map, None, Ok, refl, ap, ap₂, sym, ◌∙◌}
 use Rattle.std.specs.Prelude.{⊤}
 use Rattle.std.specs.List.{list_any}
 use Rattle.std.proofs.lemmas.Bool.{or_from, or_parts, true≢false}
@@ -11,7 +11,6 @@ use Rattle.dem_text.specs.declared.target.Target.{Target}
 use Rattle.dem_text.specs.Fitting.{Fits, AllFit}
 use Rattle.dem_text.specs.Limits.{has_target_beyond}
 use Rattle.dem_text.specs.Reached.{block_lines, has_many_lines, most_lines}
-use Rattle.stim_lexer.specs.Reached.{reached}
 use Rattle.dem_text.specs.Texts.{items_in}
 use Rattle.stim_lexer.specs.Trees.{InstructionLine, Nothing, items_of}
 use Rattle.dem_text.specs.Trees.{Tree}
@@ -41,10 +40,6 @@ lines-led (i ∷ is) t = lines-led is t
 
 pub many-led : (is : List Instruction) (t : Tree) → has_many_lines (before_tree is t) ≡ has_many_lines t
 many-led is t = ap (λ n. nat_lt most_lines n) (lines-led is t)
-
-pub reached-led : (is : List Instruction) (t : Tree) → length (reached (before_tree is t)) ≡ length is + length (reached t)
-reached-led [] t = omega arith
-reached-led (i ∷ is) t = let r = reached-led is t in omega (arith, r)
 
 pub placed-led : (is : List Instruction) (t : Tree) → AllStay is → placed_lines (before_tree is t) ≡ map placed is ++ placed_lines t
 unfolding placed_from

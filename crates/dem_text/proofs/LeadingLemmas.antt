@@ -1,13 +1,14 @@
--- The lines that a text begins with, one after another: what each of them is, and what they count together.
-use Rattle.std.proofs.Common.{◌≡◌, Bor, ℕ, zero, suc, ◌+◌, false, max, List, [], ◌∷◌, ◌++◌, length, map, take, refl, ap, ap₂, subst, sym, ◌∙◌, append_assoc, append-nil, length-append, arith}
+-- The lines that a text begins with and that declare something or say nothing: what each of them is, and what they count
+-- together. And error lines, one after another.
+use Rattle.std.proofs.Common.{◌≡◌, Bor, ℕ, zero, suc, ◌+◌, false, max, List, [], ◌∷◌, ◌++◌, length, map, take, replicate, refl, ap, ap₂, subst, sym, ◌∙◌, append_assoc, append-nil, length-append, arith, inl, true}
 use Rattle.std.specs.Prelude.{filter}
-use Rattle.std.proofs.lemmas.List.{map-append}
+use Rattle.std.proofs.lemmas.List.{length-replicate, map-append, take_at}
 use Rattle.std.proofs.lemmas.List.Elements.{filter-append}
 use Rattle.stim_lexer.specs.Cut.{Cut, cut_of}
 use Rattle.stim_lexer.specs.FirstLines.{IsFirstLine}
-use Rattle.stim_lexer.specs.Lines.{lines_of}
+use Rattle.stim_lexer.specs.Bytes.{is_line_feed}
+use Rattle.stim_lexer.specs.Lines.{lines_of, says_nothing}
 use Rattle.stim_lexer.specs.Reached.{greatest_by}
-use Rattle.stim_lexer.proofs.TextLemmas.{after}
 use Rattle.dem_text.specs.declared.counts.Extent.{Extent}
 use Rattle.dem_text.specs.declared.counts.LineCounts.{LineCounts}
 use Rattle.dem_text.specs.declared.operation.Operation.TheVariants.{PauliError}
@@ -16,13 +17,13 @@ use Rattle.dem_text.specs.Meanings.{detectors_to, is_error, observables_to}
 use Rattle.dem_text.specs.Shifts.{Placed}
 use Rattle.dem_text.specs.Verdicts.{Instruction}
 use Rattle.dem_text.specs.private.Chains.{counted_with, is_shift, placed}
-use Rattle.dem_text.specs.private.Leading.{AreErrorLines, AreQuiet, BeginsWithErrors, HasDeclared, HasPassedQuiet, IsLeading, IsQuiet, IsSomeError, counted_both, errors_from, said_from, said_in}
-use Rattle.dem_text.specs.private.LinesRead.{BeginsWithError}
+use Rattle.dem_text.specs.private.Leading.{AreErrorLines, AreQuiet, HasDeclared, HasPassedQuiet, IsLeading, IsQuiet, IsSomeError, counted_both, errors_from, said_from, said_in}
+use Rattle.dem_text.specs.private.LinesRead.{IsErrorLine}
 use Rattle.dem_text.specs.private.Standing.{instruction_cut}
 use Rattle.dem_text.specs.private.Summed.{AreCounts}
 use Rattle.dem_text.specs.declared.operation.Operation.{Operation}
 use Rattle.dem_text.proofs.LineLemmas.{IsTaken}
-use Rattle.dem_text.proofs.ReadingLemmas.{before-first, before-next, passed}
+use Rattle.dem_text.proofs.ReadingLemmas.{before-next, passed}
 
 -- ---- counts of lines and of more lines
 
@@ -43,19 +44,7 @@ counts-both ps qs a b h k =
 
 -- ---- one error line after another
 
-pub errors-first : (text : List ℕ) → BeginsWithErrors text text (record { detectors = 0; observables = 0; errors = 0 })
-errors-first text =
-    record {
-      lines = [];
-      text_is = refl;
-      long = refl;
-      errors = tt;
-      counts_are = record { detectors_are = refl; observables_are = refl; errors_are = refl };
-      before = λ some. before-first text;
-      few = omega arith;
-    }
-
-errors-push : (lines : List (List ℕ)) (line : List ℕ) → AreErrorLines lines → IsSomeError line → AreErrorLines (lines ++ line ∷ [])
+pub errors-push : (lines : List (List ℕ)) (line : List ℕ) → AreErrorLines lines → IsSomeError line → AreErrorLines (lines ++ line ∷ [])
 errors-push [] line h one = (one, tt)
 errors-push (l ∷ lines) line h one = (h.0, errors-push lines line h.1 one)
 
@@ -66,51 +55,64 @@ from-push read (l ∷ lines) line =
     ap (λ is. instruction_cut (read + 1) PauliError (cut_of l) ∷ is)
     (from-push (read + 1) lines line ∙ ap (λ n. errors_from (read + 1) lines ++ instruction_cut n PauliError (cut_of line) ∷ []) e)
 
-pub errors-next : (text rest after : List ℕ) (counts : LineCounts) (extent : Extent) → BeginsWithErrors text rest counts → BeginsWithError rest extent after
-    → BeginsWithErrors text after (counted_with counts PauliError extent)
-errors-next text rest after counts extent h begins =
-    let line = begins.line in
-    let i = instruction_cut (0 + length h.lines + 1) PauliError (cut_of line) in
-    let wide = (begins.error.known (0 + length h.lines + 1)).extent_is in
+-- the counts of error lines and of one more
+pub counted-push : (lines : List (List ℕ)) (line : List ℕ) (counts : LineCounts) (extent : Extent) → IsErrorLine line extent
+    → AreCounts (map placed (errors_from 0 lines)) counts.detectors counts.observables counts.errors
+    → (let c = counted_with counts PauliError extent in AreCounts (map placed (errors_from 0 (lines ++ line ∷ []))) c.detectors c.observables c.errors)
+counted-push lines line counts extent error h =
+    let i = instruction_cut (0 + length lines + 1) PauliError (cut_of line) in
+    let wide = (error.known (0 + length lines + 1)).extent_is in
     let one : LineCounts = record { detectors = extent.detectors; observables = extent.observables; errors = 1 } in
     let d = ap (λ (e : Extent). e.detectors) wide in
     let o = ap (λ (e : Extent). e.observables) wide in
     let counted : AreCounts (placed i ∷ []) one.detectors one.observables one.errors =
     record { detectors_are = omega (arith, d); observables_are = omega (arith, o); errors_are = refl } in
-    let all : errors_from 0 (h.lines ++ line ∷ []) ≡ errors_from 0 h.lines ++ i ∷ [] = from-push 0 h.lines line in
-    let first = begins.first in
+    let all : errors_from 0 (lines ++ line ∷ []) ≡ errors_from 0 lines ++ i ∷ [] = from-push 0 lines line in
+    subst (λ ps. AreCounts ps (max counts.detectors extent.detectors) (max counts.observables extent.observables) (counts.errors + 1))
+    (sym (ap (map placed) all ∙ map-append placed (errors_from 0 lines) (i ∷ [])))
+    (counts-both (map placed (errors_from 0 lines)) (placed i ∷ []) counts one h counted)
+
+-- ---- empty lines
+
+empty-fed : (count : ℕ) → filter is_line_feed (replicate count 10) ≡ replicate count 10
+empty-fed zero = refl
+empty-fed (suc count) = ap (λ bs. 10 ∷ bs) (empty-fed count)
+
+pub lines-empty : (count : ℕ) (rest : List ℕ) → lines_of (replicate count 10 ++ rest) ≡ replicate count [] ++ lines_of rest
+unfolding lines_of
+lines-empty zero rest = refl
+lines-empty (suc count) rest = ap (λ ls. [] ∷ ls) (lines-empty count rest)
+
+empty-says : says_nothing [] ≡ true
+unfolding says_nothing
+empty-says = refl
+
+pub empty-quiet : (read count : ℕ) → AreQuiet read (replicate count [])
+empty-quiet read zero = tt
+empty-quiet read (suc count) = (inl empty-says, empty-quiet (read + 1) count)
+
+pub empty-said : (read count : ℕ) → said_from read (replicate count []) ≡ []
+empty-said read zero = refl
+empty-said read (suc count) = let s = empty-says in rw s (empty-said (read + 1) count)
+
+-- a text that begins with line feeds
+pub leading-empty : (text rest : List ℕ) (count : ℕ) → text ≡ replicate count 10 ++ rest → IsLeading text rest count (record { detectors = 0; observables = 0; errors = 0 })
+leading-empty text rest count e =
+    let none : LineCounts = record { detectors = 0; observables = 0; errors = 0 } in
+    let feeds : List ℕ = replicate count 10 in
+    let many : length feeds ≡ count = length-replicate count 10 in
+    let long = ap length e ∙ length-append feeds rest in
     record {
-      lines = h.lines ++ line ∷ [];
-      text_is = h.text_is ∙ ap (λ ls. h.lines ++ ls) first.lines ∙ sym (append_assoc h.lines (line ∷ []) (lines_of after));
-      long = length-append h.lines (line ∷ []) ∙ ap (λ n. n + 1) h.long;
-      errors = errors-push h.lines line h.errors (record { extent = extent; error = begins.error });
+      lines = replicate count [];
+      text_is = ap lines_of e ∙ lines-empty count rest;
+      long = length-replicate count [];
+      are_quiet = empty-quiet 0 count;
       counts_are =
-          subst (λ ps. AreCounts ps (max counts.detectors extent.detectors) (max counts.observables extent.observables) (counts.errors + 1))
-          (sym (ap (map placed) all ∙ map-append placed (errors_from 0 h.lines) (i ∷ [])))
-          (counts-both (map placed (errors_from 0 h.lines)) (placed i ∷ []) counts one h.counts_are counted);
-      before = λ some. before-next text rest line after counts.errors (h.before (omega (arith, some, first.less))) first.one (first.parts some);
-      few = let f = h.few in let l = first.less in omega (arith, f, l);
-    }
-
-pub take-all : {X : Type 0} (xs ys : List X) (n : ℕ) → length xs ≡ n → take n (xs ++ ys) ≡ xs
-take-all [] ys zero e = refl
-take-all [] ys (suc n) e = absurd (omega (arith, e))
-take-all (x ∷ xs) ys zero e = absurd (omega (arith, e))
-take-all (x ∷ xs) ys (suc n) e = ap (λ zs. x ∷ zs) (take-all xs ys n (omega (arith, e)))
-
-pub leading-first : (text rest : List ℕ) (counts : LineCounts) → BeginsWithErrors text rest counts → IsLeading text rest counts.errors counts
-leading-first text rest counts h =
-    record {
-      errors = h.lines;
-      others = [];
-      text_is = h.text_is;
-      errors_long = h.long;
-      long = let l = h.long in omega (arith, l);
-      are_errors = h.errors;
-      are_quiet = tt;
-      counts_are = subst (λ (is : List Instruction). AreCounts (map placed is) counts.detectors counts.observables counts.errors) (sym (append-nil (errors_from 0 h.lines))) h.counts_are;
-      before = h.before;
-      few = h.few;
+          subst (λ (is : List Instruction). AreCounts (map placed is) none.detectors none.observables none.errors) (sym (empty-said 0 count))
+          (record { detectors_are = refl; observables_are = refl; errors_are = refl });
+      no_errors = refl;
+      before = λ some. record { front = feeds; text_is = e; read_is = ap length (empty-fed count) ∙ many };
+      few = omega (arith, long, many);
     }
 
 -- ---- one more line that declares something or says nothing
@@ -145,28 +147,23 @@ quiet-both read (x ∷ xs) ys h k =
 pub leading-next : (text rest line later : List ℕ) (count : ℕ) (counts more : LineCounts) → IsLeading text rest count counts → IsFirstLine rest line later → HasPassedQuiet (count + 1) line more
     → IsLeading text later (count + 1) (counted_both counts more)
 leading-next text rest line later count counts more h first passed =
-    let n = length h.errors in
+    let n = length h.lines in
     let c = counted_both counts more in
-    let all = errors_from 0 h.errors ++ said_from n h.others in
-    let number : count + 1 ≡ n + length h.others + 1 = let l = h.long in omega (arith, l) in
-    let here : said_from (n + length h.others) (line ∷ []) ≡ said_in (count + 1) line = append-nil (said_in (n + length h.others + 1) line) ∙ ap (λ k. said_in k line) (sym number) in
-    let said : errors_from 0 h.errors ++ said_from n (h.others ++ line ∷ []) ≡ all ++ said_in (count + 1) line =
-    ap (λ is. errors_from 0 h.errors ++ is) (said-both n h.others (line ∷ []) ∙ ap (λ is. said_from n h.others ++ is) here)
-    ∙ sym (append_assoc (errors_from 0 h.errors) (said_from n h.others) (said_in (count + 1) line)) in
+    let all = said_from 0 h.lines in
+    let number : count + 1 ≡ 0 + n + 1 = let l = h.long in omega (arith, l) in
+    let said : said_from 0 (h.lines ++ line ∷ []) ≡ all ++ said_in (count + 1) line =
+    said-both 0 h.lines (line ∷ [])
+    ∙ ap (λ is. all ++ is) (append-nil (said_in (0 + n + 1) line) ∙ ap (λ k. said_in k line) (sym number)) in
     record {
-      errors = h.errors;
-      others = h.others ++ line ∷ [];
-      text_is =
-          h.text_is
-          ∙ ap (λ ls. h.errors ++ ls) (ap (λ ls. h.others ++ ls) first.lines ∙ sym (append_assoc h.others (line ∷ []) (lines_of later)));
-      errors_long = let l = h.errors_long in let none = passed.no_errors in omega (arith, l, none);
-      long = let l = h.long in let m = length-append h.others (line ∷ []) in omega (arith, l, m);
-      are_errors = h.are_errors;
-      are_quiet = quiet-both n h.others (line ∷ []) h.are_quiet (subst (λ k. IsQuiet k line) number passed.quiet, tt);
+      lines = h.lines ++ line ∷ [];
+      text_is = h.text_is ∙ ap (λ ls. h.lines ++ ls) first.lines ∙ sym (append_assoc h.lines (line ∷ []) (lines_of later));
+      long = let l = h.long in let m = length-append h.lines (line ∷ []) in omega (arith, l, m);
+      are_quiet = quiet-both 0 h.lines (line ∷ []) h.are_quiet (subst (λ k. IsQuiet k line) number passed.quiet, tt);
       counts_are =
           subst (λ (ps : List Placed). AreCounts ps c.detectors c.observables c.errors)
           (sym (ap (map placed) said ∙ map-append placed all (said_in (count + 1) line)))
           (counts-both (map placed all) (map placed (said_in (count + 1) line)) counts more h.counts_are passed.counts_are);
+      no_errors = let a = h.no_errors in let b = passed.no_errors in omega (arith, a, b);
       before = λ some. before-next text rest line later count (h.before (omega (arith, some, first.less))) first.one (first.parts some);
       few = let f = h.few in let l = first.less in omega (arith, f, l);
     }
@@ -177,19 +174,5 @@ leading-next text rest line later count counts more h first passed =
 abbrev pub led_by : List ℕ → ℕ → List Instruction
 led_by text count = said_from 0 (take count (lines_of text))
 
-said-errors : (read : ℕ) (lines : List (List ℕ)) → AreErrorLines lines → said_from read lines ≡ errors_from read lines
-said-errors read [] h = refl
-said-errors read (line ∷ lines) h =
-    let speaks = h.0.error.speaks.speaks in
-    let taken = h.0.error.taken (read + 1) [] in
-    rw (speaks, taken) (ap (λ is. instruction_cut (read + 1) PauliError (cut_of line) ∷ is) (said-errors (read + 1) lines h.1))
-
-pub leading-is : (text rest : List ℕ) (count : ℕ) (counts : LineCounts) → (h : IsLeading text rest count counts)
-    → led_by text count ≡ errors_from 0 h.errors ++ said_from (length h.errors) h.others
-leading-is text rest count counts h =
-    let long : length (h.errors ++ h.others) ≡ count = length-append h.errors h.others ∙ h.long in
-    let e : 0 + length h.errors ≡ length h.errors = omega arith in
-    ap (said_from 0)
-    (ap (take count) (h.text_is ∙ sym (append_assoc h.errors h.others (lines_of rest))) ∙ take-all (h.errors ++ h.others) (lines_of rest) count long)
-    ∙ said-both 0 h.errors h.others
-    ∙ ap₂ (λ is n. is ++ said_from n h.others) (said-errors 0 h.errors h.are_errors) e
+pub leading-is : (text rest : List ℕ) (count : ℕ) (counts : LineCounts) → (h : IsLeading text rest count counts) → led_by text count ≡ said_from 0 h.lines
+leading-is text rest count counts h = ap (said_from 0) (ap (take count) h.text_is ∙ take_at h.lines (lines_of rest) count h.long)

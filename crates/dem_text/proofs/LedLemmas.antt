@@ -4,7 +4,8 @@ use Rattle.std.specs.Prelude.{filter, option_map}
 use Rattle.std.specs.List.{list_any}
 use Rattle.std.specs.Option.{option_or}
 use Rattle.std.proofs.lemmas.Bool.{or_from}
-use Rattle.std.proofs.lemmas.List.{length-take, map-append}
+use Rattle.std.proofs.lemmas.Bool.Decides.{nat_tests}
+use Rattle.std.proofs.lemmas.List.{length-take}
 use Rattle.step_model.specs.declared.fault.Cause.{Cause}
 use Rattle.step_model.specs.declared.fault.Cause.TheVariants as cause
 use Rattle.step_model.specs.declared.fault.Fault.{Fault}
@@ -18,14 +19,15 @@ use Rattle.stim_lexer.specs.Reached.{reached}
 use Rattle.stim_lexer.specs.Texts.{Reading, Accepts, Opens, Closes, Refuses, items_from, line_reading, open_after, refused}
 use Rattle.stim_lexer.specs.Trees.{InstructionLine, Then, items_of}
 use Rattle.stim_lexer.specs.Unfinished.{Unfinished, line_items}
-use Rattle.stim_lexer.proofs.TextLemmas.{after, after-append}
+use Rattle.stim_lexer.proofs.TextLemmas.{after}
 use Rattle.dem_text.specs.declared.counts.LineCounts.{LineCounts}
 use Rattle.dem_text.specs.declared.operation.Operation.TheVariants.{PauliError}
 use Rattle.dem_text.specs.Fitting.{Fits}
+use Rattle.dem_text.specs.Judged.{Writes}
 use Rattle.dem_text.specs.Limits.{has_target_beyond}
 use Rattle.dem_text.specs.Meanings.{is_error, meaning_of}
 use Rattle.dem_text.specs.Models.{first_beyond, is_coordinate_beyond, model_of_tree, placed_lines, refusal_of_tree}
-use Rattle.dem_text.specs.Reached.{has_many_lines}
+use Rattle.dem_text.specs.Reached.{block_lines, has_many_lines}
 use Rattle.dem_text.specs.Shifts.{Placed, no_shift}
 use Rattle.dem_text.specs.Texts.{Item, models}
 use Rattle.dem_text.specs.Trees.{Tree}
@@ -33,18 +35,18 @@ use Rattle.dem_text.specs.Verdicts.{Instruction}
 use Rattle.dem_text.specs.private.Chains.{placed}
 use Rattle.dem_text.specs.private.Flat.{tree_of}
 use Rattle.dem_text.specs.private.Kept.{Kept}
-use Rattle.dem_text.specs.private.Leading.{AreErrorLines, AreQuiet, IsLeading, IsPlacedModel, IsQuiet, counted_both, errors_from, said_from, said_in, taken, whole_tree}
+use Rattle.dem_text.specs.private.Leading.{AreErrorLines, AreQuiet, IsLeading, IsModelOf, IsPlacedModel, IsQuiet, counted_both, errors_from, said_from, said_in, taken, whole_tree}
 use Rattle.dem_text.specs.private.LinesRead.{PassesFirst, PassesLine}
 use Rattle.dem_text.specs.private.Standing.{instruction_cut}
 use Rattle.dem_text.specs.private.Summed.{AreCounts, IsJudged, error_count}
-use Rattle.dem_text.proofs.ChainLemmas.{AllNear, AllStay, items-led, many-led, near-both, near-fitting, near-led, placed-led, reached-led, stay-both, stays}
+use Rattle.dem_text.proofs.ChainLemmas.{AllNear, AllStay, items-led, many-led, near-both, near-fitting, near-led, placed-led, stay-both, stays}
 use Rattle.dem_text.proofs.ReadingLemmas.{IsReadTo, passed, spoken}
-use Rattle.dem_text.proofs.WalkSteps.{few-lines, length-placed}
+use Rattle.dem_text.proofs.WalkSteps.{few-lines, few-reached, length-placed}
 use Rattle.dem_text.proofs.LeadingLemmas.{counts-both, leading-is, led_by}
 
 -- ---- how they are read
 
-errors-read : (read : ℕ) (lines more : List (List ℕ)) → AreErrorLines lines
+pub errors-read : (read : ℕ) (lines more : List (List ℕ)) → AreErrorLines lines
     → items_from models [] read (lines ++ more) ≡ after (map InstructionLine (errors_from read lines)) (items_from models [] (read + length lines) more)
 errors-read read [] more h = let e : read ≡ read + 0 = omega arith in ap (λ n. items_from models [] n more) e
 errors-read read (line ∷ lines) more h =
@@ -55,7 +57,7 @@ errors-read read (line ∷ lines) more h =
     (ap (after (InstructionLine (instruction_cut (read + 1) PauliError (cut_of line)) ∷ []))
     (errors-read (read + 1) lines more h.1 ∙ ap (λ n. after (map InstructionLine (errors_from (read + 1) lines)) (items_from models [] n more)) e))
 
-quiet-read : (read : ℕ) (lines more : List (List ℕ)) → AreQuiet read lines
+pub quiet-read : (read : ℕ) (lines more : List (List ℕ)) → AreQuiet read lines
     → items_from models [] read (lines ++ more) ≡ after (map InstructionLine (said_from read lines)) (items_from models [] (read + length lines) more)
 quiet-read read [] more h = let e : read ≡ read + 0 = omega arith in ap (λ n. items_from models [] n more) e
 quiet-read read (line ∷ lines) more h =
@@ -81,20 +83,15 @@ items_led instructions kept = record { text = kept.text; items = map Instruction
 pub leading-reads : (text rest : List ℕ) (count : ℕ) (counts : LineCounts) (kept : Kept) (opened : List ℕ) → IsLeading text rest count counts → kept ≡ record { text = text; items = [] } → opened ≡ []
     → IsReadTo text (items_led (led_by text count) kept) opened count rest
 leading-reads text rest count counts kept opened h k o =
-    let n = length h.errors in
     let is = leading-is text rest count counts h in
-    let e : 0 + n ≡ n = omega arith in
     let behind = items_from models [] count (lines_of rest) in
-    let errors = map InstructionLine (errors_from 0 h.errors) in
-    let others = map InstructionLine (said_from n h.others) in
+    let said = map InstructionLine (said_from 0 h.lines) in
+    let long : 0 + length h.lines ≡ count = let l = h.long in omega (arith, l) in
     rw (k, o)
     (ap (items_from models [] 0) h.text_is
-    ∙ errors-read 0 h.errors (h.others ++ lines_of rest) h.are_errors
-    ∙ ap (λ m. after errors (items_from models [] m (h.others ++ lines_of rest))) e
-    ∙ ap (after errors) (quiet-read n h.others (lines_of rest) h.are_quiet ∙ ap (λ m. after others (items_from models [] m (lines_of rest))) h.long)
-    ∙ sym (after-append errors others behind)
-    ∙ ap (λ items. after items behind)
-    (sym (map-append InstructionLine (errors_from 0 h.errors) (said_from n h.others)) ∙ ap (map InstructionLine) (sym is) ∙ sym (append-nil (map InstructionLine (led_by text count)))))
+    ∙ quiet-read 0 h.lines (lines_of rest) h.are_quiet
+    ∙ ap (λ m. after said (items_from models [] m (lines_of rest))) long
+    ∙ ap (λ items. after items behind) (ap (map InstructionLine) (sym is) ∙ sym (append-nil (map InstructionLine (led_by text count)))))
 
 -- a line that is read behind them
 pub passes-led : (led : List Instruction) (text later : List ℕ) (number : ℕ) (cause_is : Option Cause) (kept kept' : Kept) (opened opened' : List ℕ) → PassesFirst text later number cause_is kept opened kept' opened'
@@ -161,11 +158,11 @@ written-led (i ∷ is) items h = written-led is items (written-one i (map Instru
 
 -- ---- what the whole means
 
-errors-stay : (read : ℕ) (lines : List (List ℕ)) → AllStay (errors_from read lines)
+pub errors-stay : (read : ℕ) (lines : List (List ℕ)) → AllStay (errors_from read lines)
 errors-stay read [] = tt
 errors-stay read (line ∷ lines) = (refl, errors-stay (read + 1) lines)
 
-errors-near : (read : ℕ) (lines : List (List ℕ)) → AreErrorLines lines → AllNear (errors_from read lines)
+pub errors-near : (read : ℕ) (lines : List (List ℕ)) → AreErrorLines lines → AllNear (errors_from read lines)
 errors-near read [] h = tt
 errors-near read (line ∷ lines) h =
     let i = instruction_cut (read + 1) PauliError (cut_of line) in
@@ -209,7 +206,7 @@ few-from read (line ∷ lines) =
     let both = length-append (said_in (read + 1) line) (said_from (read + 1) lines) in
     omega (arith, one, rest, both)
 
-length-mapped : {X Y : Type 0} (f : X → Y) (xs : List X) → length (map f xs) ≡ length xs
+pub length-mapped : {X Y : Type 0} (f : X → Y) (xs : List X) → length (map f xs) ≡ length xs
 length-mapped f [] = refl
 length-mapped f (x ∷ xs) = ap suc (length-mapped f xs)
 
@@ -226,35 +223,35 @@ pub record IsLed (text : List ℕ) (count : ℕ) (counts : LineCounts) (t : Tree
   pub near : first_beyond (placed_lines (whole_tree text count t)) ≡ first_beyond (placed_lines t)
   pub many : has_many_lines (whole_tree text count t) ≡ has_many_lines t
   pub few : length (led_by text count) ≤ count
-  pub some : counts.errors ≤ length (led_by text count)
   pub counts_are : AreCounts (map placed (led_by text count)) counts.detectors counts.observables counts.errors
 
 pub leading-led : (text rest : List ℕ) (count : ℕ) (counts : LineCounts) (t : Tree) → IsLeading text rest count counts → IsLed text count counts t
 leading-led text rest count counts t h =
-    let n = length h.errors in
     let is = leading-is text rest count counts h in
     let led = led_by text count in
-    let stay : AllStay led = subst AllStay (sym is) (stay-both (errors_from 0 h.errors) (said_from n h.others) (errors-stay 0 h.errors) (quiet-lines n h.others h.are_quiet).0) in
-    let near : AllNear led = subst AllNear (sym is) (near-both (errors_from 0 h.errors) (said_from n h.others) (errors-near 0 h.errors h.are_errors) (quiet-lines n h.others h.are_quiet).1) in
+    let quiet = quiet-lines 0 h.lines h.are_quiet in
+    let stay : AllStay led = subst AllStay (sym is) quiet.0 in
+    let near : AllNear led = subst AllNear (sym is) quiet.1 in
     let placed_are = placed-led led t stay in
-    let counts_are = subst (λ (js : List Instruction). AreCounts (map placed js) counts.detectors counts.observables counts.errors) (sym is) h.counts_are in
     record {
       placed_are = placed_are;
       near = ap first_beyond placed_are ∙ near-led led (placed_lines t) near;
       many = many-led led t;
       few = let l = few-from 0 (take count (lines_of text)) in let m = length-take count (lines_of text) in omega (arith, l, m);
-      some = let l = few-errors (map placed led) in let m = length-mapped placed led in let e = counts_are.errors_are in omega (arith, l, m, e);
-      counts_are = counts_are;
+      counts_are = subst (λ (js : List Instruction). AreCounts (map placed js) counts.detectors counts.observables counts.errors) (sym is) h.counts_are;
     }
+
+-- a tree is refused as another with the same bounds
+pub refused-alike : (s t : Tree) (f : Fault) → has_many_lines s ≡ has_many_lines t → first_beyond (placed_lines s) ≡ first_beyond (placed_lines t) → model_of_tree t ≡ Err f → model_of_tree s ≡ Err f
+refused-alike s t f many near r =
+    let same : refusal_of_tree s ≡ refusal_of_tree t =
+    ap₂ (λ (b : Bool) (o : Option ℕ). option_or (if b then Some (without_line cause.DemSteps) else None) (option_map (refused cause.DemNumber) o)) many near in
+    ap (λ o. unless o (meaning_of (placed_lines s))) same ∙ unless-same (refusal_of_tree t) (meaning_of (placed_lines t)) (meaning_of (placed_lines s)) f r
 
 pub led-refused : (text : List ℕ) (count : ℕ) (counts : LineCounts) (t : Tree) (f : Fault) → IsLed text count counts t → (f ≡ memory_fault) ⊎ (model_of_tree t ≡ Err f)
     → (f ≡ memory_fault) ⊎ (model_of_tree (whole_tree text count t) ≡ Err f)
 led-refused text count counts t f h (inl m) = inl m
-led-refused text count counts t f h (inr r) =
-    let same : refusal_of_tree (whole_tree text count t) ≡ refusal_of_tree t =
-    ap₂ (λ (b : Bool) (o : Option ℕ). option_or (if b then Some (without_line cause.DemSteps) else None) (option_map (refused cause.DemNumber) o)) h.many h.near in
-    let whole = meaning_of (placed_lines (whole_tree text count t)) in
-    inr (ap (λ o. unless o whole) same ∙ unless-same (refusal_of_tree t) (meaning_of (placed_lines t)) whole f r)
+led-refused text count counts t f h (inr r) = inr (refused-alike (whole_tree text count t) t f h.many h.near r)
 
 -- all lines that are reached are few
 led-few : (text : List ℕ) (count : ℕ) (counts : LineCounts) (t : Tree) → IsLed text count counts t → has_many_lines t ≡ false → count + length (items_of t) < 2 ^ 63 → length (reached (whole_tree text count t)) < 2 ^ 64
@@ -265,16 +262,16 @@ led-few text count counts t h short few =
     let within = h.few in
     few-lines (whole_tree text count t) (h.many ∙ short) (omega (arith, long, same, within, few))
 
-pub led-errors : (text : List ℕ) (count : ℕ) (counts more : LineCounts) (t : Tree) → IsLed text count counts t → IsJudged t more.detectors more.observables more.errors
-    → count + length (items_of t) < 2 ^ 63 → counts.errors + more.errors < 2 ^ 64
-led-errors text count counts more t h judged few =
-    let all = led-few text count counts t h judged.short few in
-    let long = reached-led (led_by text count) t in
-    let some = h.some in
+-- those that are errors are few
+led-room : (count : ℕ) (more : LineCounts) (t : Tree) → IsJudged t more.detectors more.observables more.errors → count + length (items_of t) < 2 ^ 63 → count + more.errors < 2 ^ 64
+led-room count more t judged few =
+    let short = judged.short in
+    let most : block_lines t ≤ 4_000_000 = grind (arith, nat_tests) in
+    let all = few-reached t in
     let errors = judged.counts.errors_are in
     let within = few-errors (placed_lines t) in
     let same = length-placed no_shift (reached t) in
-    omega (arith, all, long, some, errors, within, same)
+    omega (arith, all, most, errors, within, same, few)
 
 pub led-judged : (text rest : List ℕ) (count : ℕ) (counts more : LineCounts) (t : Tree) → IsLeading text rest count counts → IsJudged t more.detectors more.observables more.errors
     → count + length (items_of t) < 2 ^ 63 → IsPlacedModel text rest count counts t (counted_both counts more)
@@ -292,4 +289,10 @@ led-judged text rest count counts more t leading judged few =
         few = led-few text count counts t h judged.short few;
       };
       few = judged.few;
+      room = let none = leading.no_errors in let r = led-room count more t judged few in omega (arith, none, r);
     }
+
+pub judged-model : (text rest : List ℕ) (count : ℕ) (leading counts : LineCounts) (t : Tree) → IsPlacedModel text rest count leading t counts → Writes text (whole_tree text count t)
+    → IsModelOf text (placed_lines (whole_tree text count t))
+judged-model text rest count leading counts t h w =
+    record { tree = whole_tree text count t; writes = w; short = h.judged.short; within = h.judged.within; lines_are = refl }

@@ -22,7 +22,11 @@ mod CountedLemmas
 mod ReadingLemmas
 mod LeadingLemmas
 mod LedLemmas
-mod TurningLemmas
+mod TakingLemmas
+mod OverLemmas
+mod FeedLemmas
+mod KeptTextLemmas
+mod KeptModelLemmas
 pub mod FitLemmas
 pub mod TreeLemmas
 pub mod PassLemmas

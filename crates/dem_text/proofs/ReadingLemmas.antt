@@ -26,9 +26,6 @@ use Rattle.dem_text.specs.private.Standing.{line_at, line_number}
 
 -- ---- where a line stands
 
-pub before-first : (text : List ℕ) → IsBefore text text 0
-before-first text = record { front = []; text_is = refl; read_is = refl }
-
 drop-front : (front rest : List ℕ) → drop (length front) (front ++ rest) ≡ rest
 drop-front [] rest = refl
 drop-front (b ∷ front) rest = drop-front front rest

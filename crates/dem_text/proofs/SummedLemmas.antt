@@ -2,7 +2,7 @@
 use Rattle.std.proofs.Common.{◌≡◌, ℕ, zero, suc, ◌+◌, ◌&&◌, ◌<◌, ◌≤◌, Bool, true, false, if◌then◌else◌, List, [], ◌∷◌, length, drop, get_or, map, replicate, refl, ap, ap₂, subst, sym, ◌∙◌, arith}
 use Rattle.std.specs.Prelude.{cond, filter}
 use Rattle.std.specs.List.{range_with_len}
-use Rattle.std.proofs.lemmas.List.{get_or-drop, ext_get_or}
+use Rattle.std.proofs.lemmas.List.{ext_get_or}
 use Rattle.std.proofs.lemmas.List.FromFn.{get_or-map-range_with_len, length-map-range_with_len}
 use Rattle.pauli_word.specs.Parity.{exclusive_or}
 use Rattle.step_model.specs.ErrorModels.{ErrorLine, ErrorModel}
@@ -85,19 +85,6 @@ sum-at d o named bits passed p rest long =
       | true ↦ here
       | false ↦ refl
     ]
-
--- behind the last line that is named
-unnamed : (bits named : List Bool) (lines : List ErrorLine) → ((k : ℕ) → get_or named k false ≡ false) → turned_by bits named lines ≡ bits
-unnamed bits [] lines none = refl
-unnamed bits (n ∷ named) [] none = refl
-unnamed bits (n ∷ named) (line ∷ lines) none =
-    ap (λ b. turned_by (if b then turned bits line.targets else bits) named lines) (none 0)
-    ∙ unnamed bits named lines (λ k. none (suc k))
-
-pub unnamed-past : (bits named : List Bool) (lines : List ErrorLine) (end passed : ℕ) → end ≤ passed → ((k : ℕ) → end ≤ k → get_or named k false ≡ false)
-    → bits ≡ turned_by bits (drop passed named) lines
-unnamed-past bits named lines end passed h none =
-    sym (unnamed bits (drop passed named) lines (λ k. get_or-drop passed named k false ∙ none (passed + k) (omega (arith, h))))
 
 pub length-past : (d passed : ℕ) (named bits : List Bool) (p : Placed) (n : ℕ) → length bits ≡ n → length (turned_past d named passed p bits) ≡ n
 length-past d passed named bits p n long =

@@ -1,22 +1,18 @@
 -- Lines as they are reached, one after another: their counts, the first that is beyond a limit, and what those of them
 -- flip that are named.
-use Rattle.std.proofs.Common.{◌≡◌, ℕ, ◌+◌, ◌≤◌, Bool, true, false, List, [], ◌∷◌, None, Some, length, drop, get_or, replicate, refl, ap, ap₂, sym, ◌∙◌, inl, inr, arith}
+use Rattle.std.proofs.Common.{◌≡◌, ◌+◌, ◌≤◌, Bool, true, false, List, [], ◌∷◌, None, Some, refl, ap, sym, ◌∙◌, inl, inr, arith}
 use Rattle.std.specs.Prelude.{if◌then◌else◌, max, find, option_map}
 use Rattle.std.proofs.lemmas.Bool.{cases_Bool}
-use Rattle.std.proofs.lemmas.List.{length-replicate}
-use Rattle.step_model.specs.ErrorModels.{ErrorModel}
 use Rattle.dem_text.specs.Limits.{has_target_beyond}
 use Rattle.dem_text.specs.declared.counts.LineCounts.{LineCounts}
-use Rattle.dem_text.specs.Meanings.{detector_count, detectors_to, error_lines, meaning_of, observable_count, observables_to}
+use Rattle.dem_text.specs.Meanings.{detector_count, detectors_to, observable_count, observables_to}
 use Rattle.stim_lexer.specs.Reached.{greatest_by}
 use Rattle.dem_text.specs.Models.{first_beyond, is_beyond}
 use Rattle.dem_text.specs.Shifts.{Placed}
-use Rattle.dem_text.specs.private.Summed.{AreCounts, HasCounted, error_count, passed_after, turned_past}
-use Rattle.dem_text.specs.Sums.{symptom_of}
-use Rattle.dem_text.specs.private.Turned.{turned_by}
+use Rattle.dem_text.specs.private.Summed.{AreCounts, HasCounted, error_count}
 use Rattle.dem_text.proofs.CountLemmas.{max-more, max-none}
 use Rattle.dem_text.proofs.ShiftLemmas.{left}
-use Rattle.dem_text.proofs.SummedLemmas.{count-at, length-past, sum-at, sum-first, unnamed-past}
+use Rattle.dem_text.proofs.SummedLemmas.{count-at}
 use Rattle.dem_text.proofs.TableLemmas.{few-named}
 
 -- ---- counts
@@ -96,51 +92,3 @@ judging-done all rest counts h e =
       },
       h.within ∙ ap first_beyond e,
     )
-
--- ---- sums
-
--- what was turned so far, and the lines that are left
-pub record IsSumming (d o : ℕ) (named bits : List Bool) (passed : ℕ) (rest : List Placed) (whole : List Bool) : Type 0 where
-  pub sum : turned_by bits (drop passed named) (error_lines d o rest) ≡ whole
-  pub long : length bits ≡ d + o
-
-pub summing-first : (model : ErrorModel) (all : List Placed) (named bits : List Bool) (counts : LineCounts) → meaning_of all ≡ model
-    → AreCounts all counts.detectors counts.observables counts.errors → bits ≡ replicate (counts.detectors + counts.observables) false
-    → IsSumming counts.detectors counts.observables named bits 0 all (symptom_of model named)
-summing-first model all named bits counts is are e =
-    let d : counts.detectors ≡ model.detectors = are.detectors_are ∙ ap (λ (w : ErrorModel). w.detectors) is in
-    let o : counts.observables ≡ model.observables = are.observables_are ∙ ap (λ (w : ErrorModel). w.observables) is in
-    record {
-      sum =
-          ap₂ (λ m n. turned_by bits named (error_lines m n all)) d o
-          ∙ sum-first model all named bits counts.detectors counts.observables is are.detectors_are are.observables_are e;
-      long = ap length e ∙ length-replicate (counts.detectors + counts.observables) false;
-    }
-
-pub summing-next : (d o : ℕ) (named bits bits' : List Bool) (passed passed' : ℕ) (rest rest' : List Placed) (whole : List Bool) (p : Placed)
-    → IsSumming d o named bits passed rest whole → rest ≡ p ∷ rest' → bits' ≡ turned_past d named passed p bits → passed' ≡ passed_after passed p
-    → IsSumming d o named bits' passed' rest' whole
-summing-next d o named bits bits' passed passed' rest rest' whole p h e turns passes =
-    record {
-      sum =
-          ap₂ (λ bs k. turned_by bs (drop k named) (error_lines d o rest')) turns passes
-          ∙ sum-at d o named bits passed p rest' h.long
-          ∙ ap (λ ps. turned_by bits (drop passed named) (error_lines d o ps)) (sym e)
-          ∙ h.sum;
-      long = ap length turns ∙ length-past d passed named bits p (d + o) h.long;
-    }
-
-pub summing-done : (d o : ℕ) (named bits : List Bool) (passed : ℕ) (rest : List Placed) (whole : List Bool) → IsSumming d o named bits passed rest whole
-    → rest ≡ [] → bits ≡ whole
-summing-done d o named bits passed rest whole h e =
-    none (drop passed named) ∙ sym (ap (λ ps. turned_by bits (drop passed named) (error_lines d o ps)) e) ∙ h.sum
-  where
-    none : (names : List Bool) → bits ≡ turned_by bits names []
-    none [] = refl
-    none (n ∷ names) = refl
-
--- behind the last line that is named
-pub summing-named : (d o : ℕ) (named bits : List Bool) (passed : ℕ) (rest : List Placed) (whole : List Bool) (end : ℕ) → IsSumming d o named bits passed rest whole
-    → end ≤ passed → ((k : ℕ) → end ≤ k → get_or named k false ≡ false) → bits ≡ whole
-summing-named d o named bits passed rest whole end h past none =
-    unnamed-past bits named (error_lines d o rest) end passed past none ∙ h.sum

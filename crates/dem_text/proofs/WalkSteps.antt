@@ -359,7 +359,7 @@ few-inside (Block line turns body rest) =
     let long = length-append (copies turns (reached body)) (reached rest) in
     omega (arith, r, turn, long)
 
-few-reached : (t : Tree) → length (reached t) ≤ length (items_of t) + block_lines t
+pub few-reached : (t : Tree) → length (reached t) ≤ length (items_of t) + block_lines t
 unfolding block_lines
 few-reached Nothing = omega arith
 few-reached (Then i rest) = let r = few-reached rest in omega (arith, r)

@@ -11,6 +11,7 @@ pub mod Standing
 pub mod Summed
 pub mod TableLines
 pub mod Tables
+pub mod Taking
 pub mod Turned
 pub mod Unrolled
 pub mod Walks

@@ -1,37 +1,38 @@
-ghost use Rattle.std.specs.Prelude.{◌≡◌, ◌≤◌, ◌+◌, ◌<◌, ◌^◌, ℕ, false, true, length, slice_index_or, IfOk, IfErr};
-ghost use Rattle.step_model.specs.Faults.{memory_fault};
-ghost use Rattle.dem_text.specs.private.Summed.{passed_after, turned_past};
-ghost use Rattle.dem_text.specs.Sums.{symptom_of};
+ghost use Rattle.std.specs.Prelude.{◌≡◌, ◌≤◌, ◌+◌, ◌<◌, ◌^◌, ℕ, false, true, length, slice_index_or, IfOk};
+ghost use Rattle.dem_text.specs.private.Summed.{passed_after, turned_over, turned_past};
 
 use crate::counts::LineCounts;
 use crate::leading::Leading;
 use crate::placed_line::PlacedLine;
-use crate::sums::no_bits;
 use crate::table::LineTable;
 use crate::target::Target;
 use crate::turning::turn_targets;
 use crate::walk::Walk;
 use std::alloc::{AllocError, Allocator};
 use std::marker::Model;
-use step_model::Fault;
 
-/// An error model whose lines stay as they were read: those that its text begins with, and behind them all others. What a line flips is worked out only where the line is named, and most are not.
+/// An error model whose lines stay as they were read: those that its text begins with, and behind them all others. What a
+/// line flips is worked out only where the line is named, and most are not. It is seen as its lines as they are reached.
 #[derive(Drop)]
-pub struct PlacedModel<'a, A: Allocator + Copy> {
+pub(crate) struct PlacedModel<'a, A: Allocator + Copy> {
     pub(crate) leading: Leading<'a>,
     pub(crate) table: LineTable<'a, A>,
     pub(crate) counts: LineCounts,
 }
 
 impl<'a, A: Allocator + Copy> Model for PlacedModel<'a, A> {
-    ghost use Rattle.step_model.specs.ErrorModels.{ErrorModel};
-    ghost use Rattle.dem_text.specs.Meanings.{meaning_of};
+    ghost use Rattle.std.specs.Prelude.{List};
+    ghost use Rattle.std.specs.Coded.{coded_list};
     ghost use Rattle.dem_text.specs.Models.{placed_lines};
+    ghost use Rattle.dem_text.specs.Shifts.{Placed};
     ghost use Rattle.dem_text.specs.private.Leading.{IsPlacedModel, whole_tree};
+    ghost use Rattle.dem_text.specs.private.Placed.{coded_placed};
 
-    ghost Value = { ErrorModel };
+    ghost Value = { List Placed };
 
-    ghost view = { λ m. meaning_of (placed_lines (whole_tree m.leading.text.now m.leading.lines m.table)) };
+    ghost coded = { coded_list coded_placed };
+
+    ghost view = { λ m. placed_lines (whole_tree m.leading.text.now m.leading.lines m.table) };
 
     ghost invariant = { λ m. IsPlacedModel m.leading.text.now m.leading.rest.now m.leading.lines m.leading.counts m.table m.counts };
 }
@@ -82,36 +83,28 @@ fn pass_line<A: Allocator + Copy>(
 }
 
 impl<'a, A: Allocator + Copy> PlacedModel<'a, A> {
-    /// How many error lines there are.
-    pub fn line_count(&self) -> usize
-        ensures { result ≡ length self.now.lines }
+    /// Flips the truth values of the targets of each error line that is named, in a model with this many detectors. `named`
+    /// has a truth value for each error line, by its number from 0, and the targets are read into `room`.
+    pub(crate) fn turn(
+        &self,
+        bits: &mut [bool],
+        room: &mut Vec<Target, A>,
+        named: &[bool],
+        detectors: u32,
+    ) -> Result<(), AllocError>
+        ensures { IfOk result
+            (λ _. bits.new ≡ turned_over detectors named.now 0 self.now bits.old) }
     {
-        self.counts.errors
-    }
-
-    /// The symptom of the error lines that are named: a truth value for each detector, then one for each observable,
-    /// which says whether these lines flip it an odd number of times in all. `named` has a truth value for each error
-    /// line, by its number from 0. It fails only where memory runs out.
-    pub fn symptom(&self, alloc: A, named: &[bool]) -> Result<Vec<bool, A>, Fault>
-        ensures ok { IfOk result (λ bits. bits.items ≡ symptom_of self.now named.now) }
-        ensures err { IfErr result (λ fault. fault ≡ memory_fault) }
-    {
-        let detectors = self.counts.detectors;
-        let observables = self.counts.observables;
-        let mut bits = no_bits(alloc, detectors as usize, observables as usize)?;
-        let mut room = Vec::new(alloc);
         let end = named_end(named);
-        self.leading
-            .turn(&mut bits, &mut room, named, end, detectors)?;
-        let mut passed = self.leading.counts.errors;
+        let mut passed = 0;
         let mut walk = Walk::new(&self.table);
         while passed < end {
             let Some(line) = walk.line() else {
-                return Ok(bits);
+                return Ok(());
             };
-            passed = pass_line(&mut bits, &mut room, named, passed, detectors, &line)?;
+            passed = pass_line(bits, room, named, passed, detectors, &line)?;
             walk.pass();
         }
-        Ok(bits)
+        Ok(())
     }
 }

@@ -1,13 +1,14 @@
-ghost use Rattle.std.specs.Prelude.{◌≡◌, ◌⊎◌, IfOk, IfErr, Ok, Err};
+ghost use Rattle.std.specs.Prelude.{◌≡◌, ◌⊎◌, ◌+◌, ◌<◌, ◌^◌, IfOk, IfErr, Ok, Err};
 ghost use Rattle.step_model.specs.Faults.{memory_fault};
 ghost use Rattle.dem_text.specs.Models.{model_in, model_of_tree};
-ghost use Rattle.dem_text.specs.private.Leading.{IsLeading};
-ghost use Rattle.dem_text.specs.private.Summed.{IsJudged};
+ghost use Rattle.dem_text.specs.private.Leading.{IsLeading, IsModelOf};
+ghost use Rattle.dem_text.specs.private.Summed.{IsJudged, error_count};
+ghost use Rattle.dem_text.specs.private.Taking.{BeginsEmpty};
 
 use crate::build::model_of;
 use crate::counts::LineCounts;
 use crate::judging::counts_of;
-use crate::leading::{Leading, leading_errors, no_leading, with_declarations};
+use crate::leading::{Leading, empty_lines, with_declarations};
 use crate::placed_model::PlacedModel;
 use crate::reading::read_lines;
 use crate::table::LineTable;
@@ -39,7 +40,8 @@ fn place_behind<'a, A: Allocator + Copy>(
     leading: Leading<'a>,
 ) -> Result<PlacedModel<'a, A>, Fault>
     requires { IsLeading leading.text.now leading.rest.now leading.lines leading.counts }
-    ensures ok { IfOk result (λ model. model_in leading.entry.text.now ≡ Ok model) }
+    ensures ok { IfOk result (λ lines. IsModelOf leading.entry.text.now lines) }
+    ensures room { IfOk result (λ lines. leading.entry.lines + error_count lines < 2 ^ 64) }
     ensures err { IfErr result
         (λ fault. (fault ≡ memory_fault) ⊎ (model_in leading.entry.text.now ≡ Err fault)) }
 {
@@ -59,22 +61,29 @@ fn place_behind<'a, A: Allocator + Copy>(
     }
 }
 
-/// The error model that a text writes, or its one refusal. The model's lines stay in the text. The cause is `Memory` only
-/// where memory runs out.
-pub fn place<'a, A: Allocator + Copy>(alloc: A, text: &'a [u8]) -> Result<PlacedModel<'a, A>, Fault>
-    ensures ok { IfOk result (λ model. model_in text.now ≡ Ok model) }
+/// The error model that a text writes, or its one refusal. The model's lines stay in the text, which begins with this many
+/// line feeds. The cause is `Memory` only where memory runs out.
+pub(crate) fn place<'a, A: Allocator + Copy>(
+    alloc: A,
+    text: &'a [u8],
+    empty: usize,
+) -> Result<PlacedModel<'a, A>, Fault>
+    requires { BeginsEmpty text.now empty }
+    ensures ok { IfOk result (λ lines. IsModelOf text.now lines) }
+    ensures room { IfOk result (λ lines. empty + error_count lines < 2 ^ 64) }
     ensures err { IfErr result (λ fault. (fault ≡ memory_fault) ⊎ (model_in text.now ≡ Err fault)) }
 {
-    let leading = with_declarations(alloc, leading_errors(text))?;
+    let leading = with_declarations(alloc, empty_lines(text, empty))?;
     place_behind(alloc, leading)
 }
 
-/// The same with its lines unrolled.
+/// The error model that a text writes, its lines unrolled, or its one refusal. The cause is `Memory` only where memory runs
+/// out.
 pub fn read<'a, A: Allocator + Copy>(alloc: A, text: &'a [u8]) -> Result<Model<'a, A>, Fault>
     ensures ok { IfOk result (λ model. model_in text.now ≡ Ok model) }
     ensures err { IfErr result (λ fault. (fault ≡ memory_fault) ⊎ (model_in text.now ≡ Err fault)) }
 {
-    match read_lines(alloc, no_leading(text)) {
+    match read_lines(alloc, empty_lines(text, 0)) {
         Ok(table) => match judged(alloc, &table) {
             Ok(counts) => Ok(model_of(alloc, &table, counts)?),
             Err(fault) => Err(fault),

@@ -21,15 +21,6 @@ pub of_told : (P : List ℕ → Type 0) (left new : Option (List ℕ)) (bytes : 
 of_told P None new bytes handed end p = tt
 of_told P (Some all) new bytes handed end p = subst P (HandsOut-all all bytes new handed end).0 p
 
--- what a status of an analysis promises of the text that was read, it promises of the source's bytes
-pub promised : (Wrote : List ℕ → Type 0) (which : Status) (order : Order) (left new : Option (List ℕ)) (bytes text : List ℕ) (r : Result Status Fault)
-    → HandsOut left new bytes → IsAtEnd new → text ≡ bytes
-    → IfOk r (λ status. order ≡ Analyze → status ≡ which → Wrote text)
-    → IfOk r (λ status. order ≡ Analyze → status ≡ which → IfSome left Wrote)
-promised Wrote which order left new bytes text (Ok status) handed end same wrote =
-    λ asked is. of_told Wrote left new bytes handed end (subst Wrote same (wrote asked is))
-promised Wrote which order left new bytes text (Err fault) handed end same wrote = tt
-
 -- what is found of a program is no refusal
 not_refused : (program : Listing) (found : Option (ℕ × Place)) → (finding program found).status ≡ Refused → ⊥
 not_refused program None h = cc

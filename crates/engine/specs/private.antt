@@ -1,1 +1,3 @@
 pub mod Answered
+pub mod Predicted
+pub mod Served

@@ -1,59 +1,113 @@
-//! The symptom of error lines: what they flip together.
-ghost use Rattle.std.specs.Prelude.{◌≡◌, ◌⊎◌, Ok, Err, IfOk, IfErr};
+//! The symptom of error lines: what they flip together. The list of lines is read before the model, so that of the lines
+//! that the model's text begins with only those that are named are kept.
+ghost use Rattle.std.specs.Prelude.{◌≡◌, ◌⊎◌, ℕ, List, Ok, Err, IfOk, IfErr};
+ghost use Rattle.std.specs.List.Sorted.{IsStrictlyIncreasing};
+ghost use Rattle.std.specs.Option.{option_copied};
 ghost use Rattle.step_model.specs.Faults.{memory_fault};
-ghost use Rattle.engine.specs.Output.{done, model_prediction, prediction_output, refused_or};
+ghost use Rattle.dem_text.specs.KeptTexts.{IsKeptOf};
+ghost use Rattle.engine.specs.Output.{done, prediction_output, refused_or};
 ghost use Rattle.engine.specs.private.Answered.{Answers};
+ghost use Rattle.engine.specs.private.Predicted.{IsReadAs, numbers_in};
+ghost use Rattle.engine.specs.private.Served.{Serves};
 
 use crate::answering::write_answer;
 use crate::lines::symptom_line;
 use crate::order::Status;
 use crate::refusing::refuse;
-use dem_text::{PlacedModel, place};
-use forward_sim::read_numbers;
+use dem_text::{KeptText, keep_text};
+use forward_sim::listed_numbers;
 use std::alloc::Allocator;
-use step_model::{Fault, Sink};
+use step_model::{Cause, Fault, Sink, Source};
 
-/// Writes the symptom of the error lines that are named, of the model that a text writes, or why that is refused.
-pub(crate) fn answer_prediction<W: Sink, A: Allocator + Copy>(
+const NO_SUCH_LINE: Fault = Fault {
+    cause: Cause::FaultNumber,
+    line: 0,
+};
+
+/// Reads the text of an error model to the end of its source, and writes the symptom of the error lines that are named, or
+/// why that is refused.
+pub(crate) fn serve_prediction<R: Source, W: Sink, A: Allocator + Copy>(
     alloc: A,
     lines: &[u8],
-    text: &[u8],
+    source: &mut R,
     sink: &mut W,
 ) -> Result<Status, Fault>
-    ensures { Answers W.taken W.failures sink.old sink.new
-        (refused_or (prediction_output lines.now text.now)) result }
+    ensures { Serves R.left R.failures source.old source.new sink.old sink.new
+        (λ text. Answers W.taken W.failures sink.old sink.new
+        (refused_or (prediction_output lines.now text)) result) result }
 {
-    match prediction_text(alloc, lines, text) {
+    match listed_numbers(alloc, lines)? {
+        Some(numbers) => serve_listed(alloc, Some(numbers.as_slice()), source, sink),
+        None => serve_listed(alloc, None, source, sink),
+    }
+}
+
+/// The same where the list is read, or is none.
+fn serve_listed<R: Source, W: Sink, A: Allocator + Copy>(
+    alloc: A,
+    listed: Option<&[usize]>,
+    source: &mut R,
+    sink: &mut W,
+) -> Result<Status, Fault>
+    requires { IsStrictlyIncreasing (numbers_in (option_copied listed)) }
+    ensures { (lines : List ℕ) → IsReadAs lines (option_copied listed.entry)
+        → Serves R.left R.failures source.old source.new sink.old sink.new
+        (λ text. Answers W.taken W.failures sink.old sink.new
+        (refused_or (prediction_output lines text)) result) result }
+{
+    let kept = keep_text(alloc, numbers_in(listed), source)?;
+    write_prediction(alloc, listed, &kept, sink)
+}
+
+/// The numbers of a list; where it is none, of no line.
+fn numbers_in<'n>(listed: Option<&'n [usize]>) -> &'n [usize]
+    ensures { result.now ≡ numbers_in (option_copied listed.entry) }
+{
+    match listed {
+        Some(numbers) => numbers,
+        None => &[],
+    }
+}
+
+/// The same for a text that was kept for the list.
+fn write_prediction<W: Sink, A: Allocator + Copy>(
+    alloc: A,
+    listed: Option<&[usize]>,
+    kept: &KeptText<A>,
+    sink: &mut W,
+) -> Result<Status, Fault>
+    ensures { (lines text : List ℕ) → IsReadAs lines (option_copied listed.entry)
+        → IsKeptOf (numbers_in (option_copied listed.entry)) text kept.now
+        → Answers W.taken W.failures sink.old sink.new
+        (refused_or (prediction_output lines text)) result }
+{
+    match prediction_line(alloc, listed, kept) {
         Ok(line) => write_answer(sink, line.as_slice(), Status::Done),
         Err(fault) => refuse(alloc, fault, sink),
     }
 }
 
-/// The line that a prediction writes for the model of a text, or why it is refused.
-fn prediction_text<A: Allocator + Copy>(
+/// The line that a prediction writes, or why it is refused: as its model is first, and then as its list is.
+fn prediction_line<A: Allocator + Copy>(
     alloc: A,
-    lines: &[u8],
-    text: &[u8],
+    listed: Option<&[usize]>,
+    kept: &KeptText<A>,
 ) -> Result<Vec<u8, A>, Fault>
-    ensures ok { IfOk result (λ line. prediction_output lines.now text.now ≡ Ok (done line.items)) }
-    ensures err { IfErr result (λ e. (e ≡ memory_fault)
-        ⊎ (prediction_output lines.now text.now ≡ Err e)) }
+    ensures ok { IfOk result (λ line. (lines text : List ℕ)
+        → IsReadAs lines (option_copied listed.entry)
+        → IsKeptOf (numbers_in (option_copied listed.entry)) text kept.now
+        → prediction_output lines text ≡ Ok (done line.items)) }
+    ensures err { IfErr result (λ e. (lines text : List ℕ)
+        → IsReadAs lines (option_copied listed.entry)
+        → IsKeptOf (numbers_in (option_copied listed.entry)) text kept.now
+        → (e ≡ memory_fault) ⊎ (prediction_output lines text ≡ Err e)) }
 {
-    let model = place(alloc, text)?;
-    predict(alloc, &model, lines)
-}
-
-/// The same for a model.
-fn predict<A: Allocator + Copy>(
-    alloc: A,
-    model: &PlacedModel<'_, A>,
-    lines: &[u8],
-) -> Result<Vec<u8, A>, Fault>
-    ensures ok { IfOk result (λ line. model_prediction lines.now model.now ≡ Ok (done line.items)) }
-    ensures err { IfErr result (λ e. (e ≡ memory_fault)
-        ⊎ (model_prediction lines.now model.now ≡ Err e)) }
-{
-    let named = read_numbers(alloc, model.line_count(), lines)?;
-    let flipped = model.symptom(alloc, named.as_slice())?;
+    let found = kept.symptom(alloc, numbers_in(listed))?;
+    if listed.is_none() {
+        return Err(NO_SUCH_LINE);
+    }
+    let Some(flipped) = found else {
+        return Err(NO_SUCH_LINE);
+    };
     Ok(symptom_line(alloc, flipped.as_slice())?)
 }

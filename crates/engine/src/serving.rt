@@ -1,18 +1,19 @@
 //! Orders on a circuit or an error model, from its bytes to the bytes of the answer.
-ghost use Rattle.std.specs.Prelude.{◌≡◌, ◌⊎◌, ℕ, List, [], Some, IfOk, IfErr, IfSome, OnOk, OnErr, OnSome};
+ghost use Rattle.std.specs.Prelude.{◌≡◌, ◌⊎◌, ℕ, false, List, [], Some, IfOk, IfErr, IfSome, OnOk, OnErr, OnSome};
 ghost use Rattle.step_model.specs.Ends.{HandsOutSome, IsAtEnd, Takes, TakesSome, read_failures, write_failures};
 ghost use Rattle.step_model.specs.Faults.{memory_fault, read_fault, write_fault};
 ghost use Rattle.step_model.specs.declared.order.Order.TheVariants.{Analyze};
 ghost use Rattle.engine.specs.declared.order.Status.TheVariants.{Done, Random};
 ghost use Rattle.engine.specs.Headline.{IsDecided, IsExactFor, IsRandomFor};
 ghost use Rattle.engine.specs.Output.{output_of};
-ghost use Rattle.engine.specs.private.Answered.{AnswersOrder};
+ghost use Rattle.engine.specs.private.Answered.{AnswersOrder, is_prediction};
+ghost use Rattle.engine.specs.private.Served.{Serves};
 
 use crate::analysis::answer_analysis;
 use crate::drawing::answer_shots;
 use crate::listing::answer_faults;
 use crate::order::Status;
-use crate::predicting::answer_prediction;
+use crate::predicting::serve_prediction;
 use crate::running::answer_run;
 use frames::Shown;
 use std::alloc::Allocator;
@@ -64,24 +65,41 @@ pub fn serve<R: Source, W: Sink, A: Allocator + Copy>(
     ensures beginning { OnErr result (IfSome (R.left source.old) (λ text.
         TakesSome (W.taken sink.old) (W.taken sink.new) (output_of order.now text).bytes)) }
 {
+    serve_order(alloc, order, source, sink)
+}
+
+/// The same, said by when it failed. The text of a prediction is read by pieces.
+fn serve_order<R: Source, W: Sink, A: Allocator + Copy>(
+    alloc: A,
+    order: &Order<'_>,
+    source: &mut R,
+    sink: &mut W,
+) -> Result<Status, Fault>
+    ensures { Serves R.left R.failures source.old source.new sink.old sink.new
+        (λ text. AnswersOrder W.taken W.failures sink.old sink.new order.now text result) result }
+{
+    if let Order::Predict { lines } = *order {
+        return serve_prediction(alloc, lines, source, sink);
+    }
     let text = read_all(alloc, source)?;
     answer(alloc, order, text.as_slice(), sink)
 }
 
-/// Writes what an order asks of a text.
+/// Writes what an order asks of a circuit's text.
 fn answer<W: Sink, A: Allocator + Copy>(
     alloc: A,
     order: &Order<'_>,
     text: &[u8],
     sink: &mut W,
 ) -> Result<Status, Fault>
+    requires { is_prediction order.now ≡ false }
     ensures { AnswersOrder W.taken W.failures sink.old sink.new order.now text.now result }
 {
     match *order {
         Order::Run { coins, faults } => answer_run(alloc, coins, faults, text, sink),
         Order::Analyze => answer_analysis(alloc, text, sink),
         Order::Faults => answer_faults(alloc, text, sink),
-        Order::Predict { lines } => answer_prediction(alloc, lines, text, sink),
+        Order::Predict { .. } => unreachable!(),
         Order::Sample { shots, seed } => {
             answer_shots(alloc, Shown::Records, shots, seed, text, sink)
         }

@@ -1,6 +1,7 @@
 pub mod Differences
 pub mod KeptWords
 pub mod LetterGates
+pub mod ListedLemmas
 pub mod ListedWords
 pub mod NumberLemmas
 pub mod NumberedWords
@@ -15,7 +16,9 @@ pub mod RunLemmas
 pub mod WordLemmas
 pub mod HalfLemmas
 pub mod BoundLemmas
+pub mod BoundHits
 pub mod LaneLemmas
 pub mod LaneWords
 pub mod PairLemmas
+pub mod PairHits
 pub mod SideLemmas

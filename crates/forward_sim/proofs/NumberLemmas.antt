@@ -28,7 +28,7 @@ length-set_all : (ns : List ℕ) (ms : List Bool) → length (set_all ns ms) ≡
 length-set_all [] ms = refl
 length-set_all (n ∷ ns) ms = length-set_all ns (set ms n true) ∙ length-set ms n true
 
-eqb-comm : (a b : ℕ) → (a == b) ≡ (b == a)
+pub eqb-comm : (a b : ℕ) → (a == b) ≡ (b == a)
 eqb-comm a b = elim (eqb_tells a b) [
   | inl p ↦ p.0 ∙ sym (eq-eqb b a (sym p.1))
   | inr p ↦ elim (eqb_tells b a) [ inl q ↦ absurd (p.1 (sym q.1)) | inr q ↦ p.0 ∙ sym q.0 ]
@@ -82,7 +82,7 @@ none_set-replicate count [] = refl
 none_set-replicate count (n ∷ ns) =
     ap (λ g. not g && none_set (replicate count false) ns) (get_or-replicate-false count n) ∙ none_set-replicate count ns
 
-set_all-marks : (count : ℕ) (ns : List ℕ) → set_all ns (replicate count false) ≡ marks count ns
+pub set_all-marks : (count : ℕ) (ns : List ℕ) → set_all ns (replicate count false) ≡ marks count ns
 set_all-marks count ns =
     fill_by_all (is_among ns) (set_all ns (replicate count false)) count false
     (length-set_all ns (replicate count false) ∙ length-replicate count false)

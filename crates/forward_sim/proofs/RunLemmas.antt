@@ -1,15 +1,15 @@
 -- Runs of equal bounds, one after another.
-use Rattle.std.proofs.Common.{◌≡◌, ℕ, ◌+◌, ◌-◌, ◌<◌, ◌≤◌, false, List, [], ◌∷◌, ◌++◌, length, get_or, take, replicate, sym, ap, ◌∙◌, arith, length-append, append_assoc}
+use Rattle.std.proofs.Common.{◌≡◌, ℕ, ◌+◌, ◌-◌, ◌<◌, ◌≤◌, false, List, [], ◌∷◌, ◌++◌, length, get_or, take, replicate, refl, sym, ap, ap₂, ◌∙◌, arith, length-append, append_assoc}
 use Rattle.std.proofs.lemmas.Bool.{le-ltb}
-use Rattle.std.specs.Prelude.{nat_lt}
-use Rattle.std.proofs.lemmas.List.{take_more, length-take, length-replicate, get_or-replicate, replicate_more, append-nil}
-use Rattle.std.proofs.lemmas.List.Concat.{get_or-flat_map}
+use Rattle.std.proofs.Math.Dec.{leb-suc-suc}
+use Rattle.std.specs.Prelude.{zero, suc, nat_lt}
+use Rattle.std.proofs.lemmas.List.{take_all, take_more, length-map, length-take, length-replicate, get_or-map, map-append, replicate_more, append-nil}
 use Rattle.std.proofs.lemmas.List.Folds.{length-flat_map-take}
 use Rattle.std.proofs.lemmas.Grind.{flat_map-append}
 use Rattle.rand_pcg.specs.Lcg.{Lcg}
 use Rattle.rand_pcg.specs.Pcg.{pcg64}
 use Rattle.forward_sim.specs.declared.runs.BoundRun.{BoundRun}
-use Rattle.forward_sim.specs.private.BoundRuns.{bounds_in, bounds_of_run}
+use Rattle.forward_sim.specs.private.BoundRuns.{IsGreatestBelow, bounds_above, bounds_in, bounds_of_run}
 use Rattle.forward_sim.specs.Drawn.{after_words, word_at}
 use Rattle.forward_sim.proofs.WordLemmas.{after_words-add}
 
@@ -29,27 +29,51 @@ run_fits runs r none within =
     let piece : length (bounds_of_run run) ≡ run.count = length-replicate run.count run.bound in
     omega (arith, piece, length-flat_map-take bounds_of_run runs r none within)
 
+pub runs_more : (runs : List BoundRun) (r : ℕ) (none : BoundRun) → r < length runs
+    → bounds_in (take r runs) ++ bounds_of_run (get_or runs r none) ≡ bounds_in (take (r + 1) runs)
+runs_more runs r none within =
+    sym (ap bounds_in (take_more runs r none within) ∙ run_more (take r runs) (get_or runs r none))
+
 pub run_counts : (runs : List BoundRun) (r : ℕ) (none : BoundRun) → r < length runs
     → bounds_before runs (r + 1) ≡ bounds_before runs r + (get_or runs r none).count
 run_counts runs r none within =
     let run = get_or runs r none in
-    ap (λ rs. length (bounds_in rs)) (take_more runs r none within)
-    ∙ (ap length (run_more (take r runs) run)
+    ap length (sym (runs_more runs r none within))
     ∙ (length-append (bounds_in (take r runs)) (bounds_of_run run)
-    ∙ ap (λ n. bounds_before runs r + n) (length-replicate run.count run.bound)))
+    ∙ ap (λ n. bounds_before runs r + n) (length-replicate run.count run.bound))
 
-pub run_bound : (runs : List BoundRun) (r : ℕ) (none : BoundRun) (f : ℕ) → r < length runs
-    → bounds_before runs r ≤ f → f < bounds_before runs r + (get_or runs r none).count
-    → get_or (bounds_in runs) f 0 ≡ (get_or runs r none).bound
-run_bound runs r none f within low high =
-    let run = get_or runs r none in
-    let place : ℕ = f - bounds_before runs r in
-    let whole : bounds_before runs r + place ≡ f = omega arith in
-    let short : place < run.count = omega arith in
-    let piece : length (bounds_of_run run) ≡ run.count = length-replicate run.count run.bound in
-    ap (λ k. get_or (bounds_in runs) k 0) (sym whole)
-    ∙ (get_or-flat_map bounds_of_run runs r place none 0 within (omega (arith, piece, short))
-    ∙ get_or-replicate run.count place run.bound 0 short)
+-- the bounds above one word more
+pub above_more : (words : List ℕ) (k : ℕ) → k < length words → take k (bounds_above words) ++ (get_or words k 0 + 1) ∷ [] ≡ take (k + 1) (bounds_above words)
+above_more words k within =
+    ap (λ b. take k (bounds_above words) ++ b ∷ []) (sym (get_or-map (λ w. w + 1) words k 0 0 within))
+    ∙ sym (take_more (bounds_above words) k 0 (omega (arith, within, length-map words (λ w. w + 1))))
+
+pub above_count : (words : List ℕ) (k : ℕ) → k ≤ length words → length (take k (bounds_above words)) ≡ k
+above_count words k within =
+    omega (arith, within, length-take k (bounds_above words), length-map words (λ w. w + 1))
+
+pub above_all : (words : List ℕ) (k : ℕ) → length words ≤ k → take k (bounds_above words) ≡ bounds_above words
+above_all words k over = take_all k (bounds_above words) (omega (arith, over, length-map words (λ w. w + 1)))
+
+-- the words of one run more
+above_replicate : (n most : ℕ) → bounds_above (replicate n most) ≡ replicate n (most + 1)
+above_replicate zero most = refl
+above_replicate (suc n) most = ap (λ xs. (most + 1) ∷ xs) (above_replicate n most)
+
+pub above_run : (words front : List ℕ) (run : BoundRun) (end n most : ℕ) → end ≡ length words + run.count → n ≡ length words → run.bound ≡ most + 1 → bounds_above words ≡ front
+    → bounds_above (take end words ++ replicate (end - n) most) ≡ front ++ bounds_of_run run
+above_run words front run end n most whole size next so_far =
+    let count : end - n ≡ run.count = omega (arith, whole, size) in
+    map-append (λ w. w + 1) (take end words) (replicate (end - n) most)
+    ∙ ap₂ (λ xs ys. xs ++ ys)
+    (ap bounds_above (take_all end words (omega (arith, whole))) ∙ so_far)
+    (above_replicate (end - n) most ∙ ap₂ replicate count (sym next))
+
+-- the next number below which a word is the greatest
+pub next_above : (most : ℕ) → IsGreatestBelow (most + 1) most
+next_above most word fits =
+    let next : suc most ≡ most + 1 = omega arith in
+    sym (leb-suc-suc word most) ∙ ap (nat_lt word) next
 
 -- a run with one fault more
 pub count_one : (bounds : List ℕ) (run : BoundRun) (bound : ℕ) → bound ≡ run.bound

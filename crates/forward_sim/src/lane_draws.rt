@@ -1,44 +1,71 @@
 // A shot drawn into one lane of words.
 ghost use Rattle.std.specs.Prelude.{◌≡◌, ◌==◌, ◌||◌, ℕ, ◌+◌, ◌-◌, ◌<◌, ◌≤◌, nat_lt, if◌then◌else◌, length};
 ghost use Rattle.bit_rows.specs.Lanes.{lane_bit};
-ghost use Rattle.forward_sim.specs.private.BoundRuns.{bounds_in};
-ghost use Rattle.forward_sim.specs.Drawn.{after_words, word_at};
-ghost use Rattle.forward_sim.specs.private.LaneDraws.{DrawsInto, coin_hits, fault_hits, toss_hits};
+ghost use Rattle.forward_sim.specs.private.BoundRuns.{bounds_above, bounds_in, bounds_of_run};
+ghost use Rattle.forward_sim.specs.Drawn.{after_words};
+ghost use Rattle.forward_sim.specs.private.LaneDraws.{BoundsDrawn, DrawsInto, coin_hits, toss_hits};
 
+use crate::fault_bounds::FaultBounds;
 use crate::runs::BoundRun;
 use crate::span::Span;
 use bit_rows::lanes::with_bit;
 use rand_core::utils::NextWord;
 use rand_pcg::Pcg64;
+use std::alloc::Allocator;
 
 // A fault happens where its word is below its bound.
-pub(crate) fn draw_faults(faults: &mut [u64], runs: &[BoundRun], lane: u32, rng: &mut Pcg64)
-    requires faults { length faults.old ≡ length (bounds_in runs.now) }
+pub(crate) fn draw_faults<A: Allocator + Copy>(
+    faults: &mut [u64],
+    bounds: &FaultBounds<A>,
+    lane: u32,
+    rng: &mut Pcg64,
+)
+    requires faults { length faults.old ≡ length bounds.now }
     requires lane { lane < 64 }
-    ensures drawn { DrawsInto lane 0 (length (bounds_in runs.now))
-        (fault_hits (bounds_in runs.now) rng.old) faults.old faults.new }
-    ensures taken { rng.new ≡ after_words (length (bounds_in runs.now)) rng.old }
+    ensures { BoundsDrawn lane 0 bounds.now rng.old faults.old faults.new rng.new }
+{
+    let start = draw_runs(faults, bounds.runs.as_slice(), lane, rng);
+    draw_each(faults, start, bounds.greatest.as_slice(), lane, rng);
+}
+
+// The same for the faults of some runs, which are the first ones. Returns how many there are.
+fn draw_runs(faults: &mut [u64], runs: &[BoundRun], lane: u32, rng: &mut Pcg64) -> usize
+    requires faults { length (bounds_in runs.now) ≤ length faults.old }
+    requires lane { lane < 64 }
+    ensures count { result ≡ length (bounds_in runs.now) }
+    ensures drawn { BoundsDrawn lane 0 (bounds_in runs.now) rng.old faults.old faults.new rng.new }
 {
     let mut start = 0;
     for r in 0..runs.len() {
-        let end = start + runs[r].count;
-        draw_run(faults, start, end, runs[r].bound, lane, rng);
-        start = end;
+        let run = runs[r];
+        draw_run(faults, start, run, lane, rng);
+        start += run.count;
+    }
+    start
+}
+
+// The same for the faults of one run.
+fn draw_run(faults: &mut [u64], start: usize, run: BoundRun, lane: u32, rng: &mut Pcg64)
+    requires within { start + run.count ≤ length faults.old }
+    requires lane { lane < 64 }
+    ensures { BoundsDrawn lane start (bounds_of_run run) rng.old faults.old faults.new rng.new }
+{
+    for k in 0..run.count {
+        let word = u128::from(rng.next_word());
+        strike(faults, start + k, lane, word < run.bound);
     }
 }
 
-// The same for faults of one bound.
-fn draw_run(faults: &mut [u64], start: usize, end: usize, bound: u128, lane: u32, rng: &mut Pcg64)
-    requires order { start ≤ end }
-    requires within { end ≤ length faults.old }
+// The same for faults each of which has a greatest word of its own, with which it happens.
+fn draw_each(faults: &mut [u64], start: usize, greatest: &[u64], lane: u32, rng: &mut Pcg64)
+    requires within { start + length greatest.now ≤ length faults.old }
     requires lane { lane < 64 }
-    ensures drawn { DrawsInto lane start end (λ f. nat_lt (word_at rng.old (f - start)) bound)
-        faults.old faults.new }
-    ensures taken { rng.new ≡ after_words (end - start) rng.old }
+    ensures { BoundsDrawn lane start (bounds_above greatest.now) rng.old faults.old faults.new
+        rng.new }
 {
-    for f in start..end {
-        let word = u128::from(rng.next_word());
-        strike(faults, f, lane, word < bound);
+    for k in 0..greatest.len() {
+        let word = rng.next_word();
+        strike(faults, start + k, lane, word <= greatest[k]);
     }
 }
 

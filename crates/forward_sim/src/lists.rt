@@ -54,7 +54,7 @@ fn ones<A: Allocator + Copy>(alloc: A, text: &[u8]) -> Result<Vec<bool, A>, Allo
 
 /// The number that a piece of a list writes, where it is one and below a count. While it is read it stays at the count
 /// once it reaches that, however many digits follow.
-fn number_below(count: usize, piece: &[u8]) -> Option<usize>
+pub(crate) fn number_below(count: usize, piece: &[u8]) -> Option<usize>
     ensures { result ≡ number_below count piece.now }
 {
     let mut n = 0usize;

@@ -1,16 +1,18 @@
 // Shots drawn into two lanes at once, each by a generator of its own.
-ghost use Rattle.std.specs.Prelude.{◌≡◌, ◌≢◌, ℕ, ◌+◌, ◌-◌, ◌^◌, ◌<◌, ◌≤◌, nat_le, nat_lt, length};
-ghost use Rattle.forward_sim.specs.private.BoundRuns.{bounds_in};
-ghost use Rattle.forward_sim.specs.Drawn.{after_words, word_at};
+ghost use Rattle.std.specs.Prelude.{◌≡◌, ◌≢◌, ℕ, ◌+◌, ◌-◌, ◌<◌, ◌≤◌, [], ◌∷◌, length};
+ghost use Rattle.forward_sim.specs.private.BoundRuns.{IsGreatestBelow, bounds_above, bounds_in, bounds_of_run};
+ghost use Rattle.forward_sim.specs.Drawn.{after_words};
 ghost use Rattle.forward_sim.specs.private.LaneDraws.{HasRoom, coin_hits, fault_hits, toss_hits};
-ghost use Rattle.forward_sim.specs.private.PairDraws.{DrawsIntoBoth};
+ghost use Rattle.forward_sim.specs.private.PairDraws.{BothDrawn, DrawsIntoBoth};
 
 use crate::copies::copy_of;
+use crate::fault_bounds::FaultBounds;
 use crate::lane_draws::{strike, toss};
-use crate::runs::BoundRun;
+use crate::runs::{BoundRun, word_below};
 use crate::span::Span;
 use rand_core::utils::NextWord;
 use rand_pcg::Pcg64;
+use std::alloc::Allocator;
 
 /// Two lanes.
 #[derive(Clone, Copy)]
@@ -23,46 +25,61 @@ pub(crate) struct LanePair {
 }
 
 /// Faults, and then coins, of which those of a span are passed over.
-pub(crate) fn draw_pair(
+pub(crate) fn draw_pair<A: Allocator + Copy>(
     faults: &mut [u64],
     coins: &mut [u64],
     passed: Span,
-    runs: &[BoundRun],
+    bounds: &FaultBounds<A>,
     lanes: LanePair,
     first: &mut Pcg64,
     second: &mut Pcg64,
 )
-    requires { HasRoom passed (bounds_in runs.now) faults.old coins.old }
-    ensures faults { DrawsIntoBoth lanes.first lanes.second 0 (length (bounds_in runs.now))
-        (fault_hits (bounds_in runs.now) first.old) (fault_hits (bounds_in runs.now) second.old)
+    requires { HasRoom passed bounds.now faults.old coins.old }
+    ensures faults { DrawsIntoBoth lanes.first lanes.second 0 (length bounds.now)
+        (fault_hits bounds.now first.old) (fault_hits bounds.now second.old)
         faults.old faults.new }
     ensures coins { DrawsIntoBoth lanes.first lanes.second 0 (length coins.old)
-        (coin_hits passed (after_words (length (bounds_in runs.now)) first.old))
-        (coin_hits passed (after_words (length (bounds_in runs.now)) second.old))
+        (coin_hits passed (after_words (length bounds.now) first.old))
+        (coin_hits passed (after_words (length bounds.now) second.old))
         coins.old coins.new }
     ensures first { first.new
-        ≡ after_words (length coins.old) (after_words (length (bounds_in runs.now)) first.old) }
+        ≡ after_words (length coins.old) (after_words (length bounds.now) first.old) }
     ensures second { second.new
-        ≡ after_words (length coins.old) (after_words (length (bounds_in runs.now)) second.old) }
+        ≡ after_words (length coins.old) (after_words (length bounds.now) second.old) }
 {
-    draw_faults(faults, runs, lanes, first, second);
+    draw_faults(faults, bounds, lanes, first, second);
     draw_coins(coins, passed, lanes, first, second);
 }
 
 // A fault happens where its word is below its bound.
-fn draw_faults(
+fn draw_faults<A: Allocator + Copy>(
+    faults: &mut [u64],
+    bounds: &FaultBounds<A>,
+    lanes: LanePair,
+    first: &mut Pcg64,
+    second: &mut Pcg64,
+)
+    requires { length faults.old ≡ length bounds.now }
+    ensures { BothDrawn lanes.first lanes.second 0 bounds.now first.old second.old
+        faults.old faults.new first.new second.new }
+{
+    let start = draw_runs(faults, bounds.runs.as_slice(), lanes, first, second);
+    let greatest = bounds.greatest.as_slice();
+    draw_each(faults, start, greatest, lanes, first, second);
+}
+
+// The same for the faults of some runs, which are the first ones. Returns how many there are.
+fn draw_runs(
     faults: &mut [u64],
     runs: &[BoundRun],
     lanes: LanePair,
     first: &mut Pcg64,
     second: &mut Pcg64,
-)
-    requires { length faults.old ≡ length (bounds_in runs.now) }
-    ensures drawn { DrawsIntoBoth lanes.first lanes.second 0 (length (bounds_in runs.now))
-        (fault_hits (bounds_in runs.now) first.old) (fault_hits (bounds_in runs.now) second.old)
-        faults.old faults.new }
-    ensures first { first.new ≡ after_words (length (bounds_in runs.now)) first.old }
-    ensures second { second.new ≡ after_words (length (bounds_in runs.now)) second.old }
+) -> usize
+    requires { length (bounds_in runs.now) ≤ length faults.old }
+    ensures count { result ≡ length (bounds_in runs.now) }
+    ensures drawn { BothDrawn lanes.first lanes.second 0 (bounds_in runs.now) first.old second.old
+        faults.old faults.new first.new second.new }
 {
     let mut start = 0;
     for r in 0..runs.len() {
@@ -70,6 +87,7 @@ fn draw_faults(
         draw_run(faults, start, run, lanes, first, second);
         start += run.count;
     }
+    start
 }
 
 // The same for the faults of one run. Not inlined, so that the loop has the registers to itself.
@@ -83,11 +101,8 @@ fn draw_run(
     second: &mut Pcg64,
 )
     requires { start + run.count ≤ length faults.old }
-    ensures drawn { DrawsIntoBoth lanes.first lanes.second start (start + run.count)
-        (λ f. nat_lt (word_at first.old (f - start)) run.bound)
-        (λ f. nat_lt (word_at second.old (f - start)) run.bound) faults.old faults.new }
-    ensures first { first.new ≡ after_words run.count first.old }
-    ensures second { second.new ≡ after_words run.count second.old }
+    ensures { BothDrawn lanes.first lanes.second start (bounds_of_run run) first.old second.old
+        faults.old faults.new first.new second.new }
 {
     if run.bound == 0 {
         first.advance(run.count as u128);
@@ -98,27 +113,56 @@ fn draw_run(
     // A copy stays in registers.
     let mut one = copy_of(first);
     let mut two = copy_of(second);
-    for f in start..start + run.count {
-        let word = one.next_word();
-        let other = two.next_word();
-        strike(faults, f, lanes.first, word <= most);
-        strike(faults, f, lanes.second, other <= most);
+    for k in 0..run.count {
+        draw_fault(faults, start + k, most, lanes, &mut one, &mut two);
     }
     *first = one;
     *second = two;
 }
 
-// The greatest word that is below a bound: comparing two words is faster than comparing a word with a bound of 128
-// bits.
-fn word_below(bound: u128) -> u64
-    requires { 0 < bound }
-    ensures { (word : ℕ) → word < 2 ^ 64 → nat_le word result ≡ nat_lt word bound }
+// The same for faults each of which has a greatest word of its own, with which it happens.
+#[inline(never)]
+fn draw_each(
+    faults: &mut [u64],
+    start: usize,
+    greatest: &[u64],
+    lanes: LanePair,
+    first: &mut Pcg64,
+    second: &mut Pcg64,
+)
+    requires { start + length greatest.now ≤ length faults.old }
+    ensures { BothDrawn lanes.first lanes.second start (bounds_above greatest.now)
+        first.old second.old faults.old faults.new first.new second.new }
 {
-    if bound < 1 << 64 {
-        (bound - 1) as u64
-    } else {
-        u64::MAX
+    let mut one = copy_of(first);
+    let mut two = copy_of(second);
+    for k in 0..greatest.len() {
+        draw_fault(faults, start + k, greatest[k], lanes, &mut one, &mut two);
     }
+    *first = one;
+    *second = two;
+}
+
+// The same for one fault, by the greatest word with which it happens.
+#[inline(always)]
+fn draw_fault(
+    faults: &mut [u64],
+    f: usize,
+    most: u64,
+    lanes: LanePair,
+    first: &mut Pcg64,
+    second: &mut Pcg64,
+)
+    requires { f < length faults.old }
+    ensures { (bound : ℕ)
+        → IsGreatestBelow bound most
+        → BothDrawn lanes.first lanes.second f (bound ∷ []) first.old second.old
+        faults.old faults.new first.new second.new }
+{
+    let word = first.next_word();
+    let other = second.next_word();
+    strike(faults, f, lanes.first, word <= most);
+    strike(faults, f, lanes.second, other <= most);
 }
 
 // The generators pass over the words of the coins of a span.

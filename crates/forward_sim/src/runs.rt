@@ -1,6 +1,6 @@
 // The bounds of a program's faults, as runs of equal ones: a noise instruction makes many faults of one bound.
-ghost use Rattle.std.specs.Prelude.{◌≡◌, ◌+◌, ◌^◌, ◌<◌, [], ◌∷◌, ◌++◌, IfOk, OnOk};
-ghost use Rattle.forward_sim.specs.private.BoundRuns.{bounds_in, bounds_of_run};
+ghost use Rattle.std.specs.Prelude.{◌≡◌, ◌+◌, ◌^◌, ◌<◌, ◌≤◌, [], ◌∷◌, ◌++◌, IfOk, OnOk};
+ghost use Rattle.forward_sim.specs.private.BoundRuns.{IsGreatestBelow, bounds_in, bounds_of_run};
 ghost use Rattle.forward_sim.specs.Drawn.{bounds_of};
 
 use programs::{Program, Walk, next_fault};
@@ -21,7 +21,8 @@ pub(crate) fn bound_runs<A: Allocator + Copy>(
 {
     program.well_formed();
     let mut runs = Vec::new(alloc);
-    let mut last = BoundRun { bound: 0, count: 0 };
+    // Any bound will do for a run of no faults, but not 0, which no word is below.
+    let mut last = BoundRun { bound: 1, count: 0 };
     let mut walk = Walk::start(program);
     for _number in 0..program.fault_count() {
         let Some(fault) = next_fault(&mut walk) else {
@@ -52,4 +53,17 @@ fn count_fault<A: Allocator + Copy>(
     runs.push(*last)?;
     *last = BoundRun { bound, count: 1 };
     Ok(())
+}
+
+/// The greatest word that is below a bound: comparing two words is faster than comparing a word with a bound of 128 bits.
+pub(crate) fn word_below(bound: u128) -> u64
+    requires { 0 < bound }
+    ensures greatest { IsGreatestBelow bound result }
+    ensures next { bound ≤ 2 ^ 64 → bound ≡ result + 1 }
+{
+    if bound < 1 << 64 {
+        (bound - 1) as u64
+    } else {
+        u64::MAX
+    }
 }

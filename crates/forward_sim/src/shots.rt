@@ -3,7 +3,7 @@ ghost use Rattle.step_model.specs.Faults.{memory_fault};
 ghost use Rattle.forward_sim.specs.Drawn.{bounds_of, after_shots};
 ghost use Rattle.forward_sim.specs.Shots.{AreDrawn};
 
-use crate::runs::{BoundRun, bound_runs};
+use crate::fault_bounds::FaultBounds;
 use crate::side_draws::draw_lanes;
 use crate::span::Span;
 use programs::Program;
@@ -16,22 +16,21 @@ use step_model::Fault;
 /// one for each collapse, with its coins. Each call of `draw` draws them anew, in the memory that `new` took.
 #[derive(Drop)]
 pub struct Shots<A: Allocator + Copy> {
-    runs: Vec<BoundRun, A>,
+    bounds: FaultBounds<A>,
     passed: Span,
     faults: Vec<u64, A>,
     coins: Vec<u64, A>,
 }
 
 impl<A: Allocator + Copy> Model for Shots<A> {
-    ghost use Rattle.forward_sim.specs.private.BoundRuns.{bounds_in};
     ghost use Rattle.forward_sim.specs.private.LaneDraws.{HasRoom};
     ghost use Rattle.forward_sim.specs.Shots.{ShotWords};
 
     ghost Value = { ShotWords };
 
-    ghost view = { λ s. record { bounds = bounds_in s.runs.items; passed = s.passed; faults = s.faults.items; coins = s.coins.items } };
+    ghost view = { λ s. record { bounds = s.bounds; passed = s.passed; faults = s.faults.items; coins = s.coins.items } };
 
-    ghost invariant = { λ s. HasRoom s.passed (bounds_in s.runs.items) s.faults.items s.coins.items };
+    ghost invariant = { λ s. HasRoom s.passed s.bounds s.faults.items s.coins.items };
 }
 
 impl<A: Allocator + Copy> Shots<A> {
@@ -48,11 +47,11 @@ impl<A: Allocator + Copy> Shots<A> {
             ≡ replicate program.now.listing.collapses 0) }
         ensures err { IfErr result (λ fault. fault ≡ memory_fault) }
     {
-        let runs = bound_runs(alloc, program)?;
+        let bounds = FaultBounds::new(alloc, program)?;
         let faults = vec![in alloc; 0u64; program.fault_count() as usize]?;
         let coins = vec![in alloc; 0u64; program.collapse_count() as usize]?;
         Ok(Shots {
-            runs,
+            bounds,
             passed,
             faults,
             coins,
@@ -74,7 +73,7 @@ impl<A: Allocator + Copy> Shots<A> {
             &mut self.faults,
             &mut self.coins,
             self.passed,
-            self.runs.as_slice(),
+            &self.bounds,
             count,
             rng,
         );

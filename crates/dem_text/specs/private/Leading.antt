@@ -1,7 +1,8 @@
--- The lines that a text begins with, before any block or shift: first error lines, then lines that declare something or say
--- nothing. They stay in the text: kept are only how many they are, what they name up to the greatest, and what follows
--- them. (Stim's detector error model format, github.com/quantumlib/Stim, doc/file_format_dem_detector_error_model.md.)
-use Rattle.std.specs.Prelude.{◌≡◌, ⊤, ℕ, ◌+◌, ◌<◌, ◌≤◌, ◌^◌, ◌⊎◌, max, if◌then◌else◌, true, false, List, [], ◌∷◌, ◌++◌, length, map, take}
+-- The lines that a text begins with, before any block or shift, and that declare something or say nothing. They stay in the
+-- text: kept are only how many they are, what they name up to the greatest, and what follows them. And what error lines say
+-- that are taken from a text before. (Stim's detector error model format, github.com/quantumlib/Stim,
+-- doc/file_format_dem_detector_error_model.md.)
+use Rattle.std.specs.Prelude.{◌≡◌, ⊤, ℕ, ◌+◌, ◌<◌, ◌≤◌, ◌^◌, ◌⊎◌, max, if◌then◌else◌, true, false, None, List, [], ◌∷◌, ◌++◌, length, map, take}
 use Rattle.stim_lexer.specs.Cut.{Cut, cut_of}
 use Rattle.stim_parser.specs.Judging.{reading_of}
 use Rattle.stim_lexer.specs.Lines.{lines_of, says_nothing}
@@ -12,7 +13,11 @@ use Rattle.dem_text.specs.declared.counts.Extent.{Extent}
 use Rattle.dem_text.specs.declared.counts.LineCounts.{LineCounts}
 use Rattle.dem_text.specs.declared.operation.Operation.TheVariants.{PauliError}
 use Rattle.dem_text.specs.Fitting.{Fits}
+use Rattle.dem_text.specs.Judged.{Writes}
 use Rattle.dem_text.specs.Meanings.{is_error}
+use Rattle.dem_text.specs.Models.{first_beyond, placed_lines}
+use Rattle.dem_text.specs.Reached.{has_many_lines}
+use Rattle.dem_text.specs.Shifts.{Placed}
 use Rattle.dem_text.specs.Texts.{models}
 use Rattle.dem_text.specs.Trees.{Tree}
 use Rattle.dem_text.specs.Verdicts.{Instruction, model_table}
@@ -27,10 +32,6 @@ use Rattle.dem_text.specs.private.Summed.{AreCounts, IsJudged}
 abbrev pub errors_from : ℕ → List (List ℕ) → List Instruction
 errors_from read [] = []
 errors_from read (line ∷ lines) = instruction_cut (read + 1) PauliError (cut_of line) ∷ errors_from (read + 1) lines
-
--- what the first lines of a text say, which are error lines
-abbrev pub errors_of : List ℕ → ℕ → List Instruction
-errors_of text count = errors_from 0 (take count (lines_of text))
 
 -- the instruction of a line, and none of one that says nothing
 abbrev pub taken : Reading Instruction → List Instruction
@@ -75,17 +76,7 @@ abbrev pub AreErrorLines : List (List ℕ) → Type 0
 AreErrorLines [] = ⊤
 AreErrorLines (line ∷ lines) = IsSomeError line × AreErrorLines lines
 
--- a text begins with such lines, which have these counts, and this follows them
-pub record BeginsWithErrors (text rest : List ℕ) (counts : LineCounts) : Type 0 where
-  pub lines : List (List ℕ)
-  pub text_is : lines_of text ≡ lines ++ lines_of rest
-  pub long : length lines ≡ counts.errors
-  pub errors : AreErrorLines lines
-  pub counts_are : AreCounts (map placed (errors_from 0 lines)) counts.detectors counts.observables counts.errors
-  pub before : 0 < length rest → IsBefore text rest counts.errors
-  pub few : counts.errors + length rest ≤ length text
-
--- ---- what is known of the lines behind them
+-- ---- what is known of lines that declare something or say nothing
 
 -- an instruction that shifts nothing and is no error
 pub record Declares (i : Instruction) : Type 0 where
@@ -120,16 +111,14 @@ pub record HasPassedQuiet (number : ℕ) (line : List ℕ) (counts : LineCounts)
   pub counts_are : AreCounts (map placed (said_in number line)) counts.detectors counts.observables counts.errors
   pub no_errors : counts.errors ≡ 0
 
--- the first lines of a text, so many, are error lines and then such lines; they have these counts, and this follows them
+-- the first lines of a text, so many, are such lines; they have these counts, and this follows them
 pub record IsLeading (text rest : List ℕ) (count : ℕ) (counts : LineCounts) : Type 0 where
-  pub errors : List (List ℕ)
-  pub others : List (List ℕ)
-  pub text_is : lines_of text ≡ errors ++ (others ++ lines_of rest)
-  pub errors_long : length errors ≡ counts.errors
-  pub long : length errors + length others ≡ count
-  pub are_errors : AreErrorLines errors
-  pub are_quiet : AreQuiet (length errors) others
-  pub counts_are : AreCounts (map placed (errors_from 0 errors ++ said_from (length errors) others)) counts.detectors counts.observables counts.errors
+  pub lines : List (List ℕ)
+  pub text_is : lines_of text ≡ lines ++ lines_of rest
+  pub long : length lines ≡ count
+  pub are_quiet : AreQuiet 0 lines
+  pub counts_are : AreCounts (map placed (said_from 0 lines)) counts.detectors counts.observables counts.errors
+  pub no_errors : counts.errors ≡ 0
   pub before : 0 < length rest → IsBefore text rest count
   pub few : count + length rest ≤ length text
 
@@ -139,3 +128,12 @@ pub record IsPlacedModel (text rest : List ℕ) (count : ℕ) (leading : LineCou
   pub leading_is : IsLeading text rest count leading
   pub judged : IsJudged (whole_tree text count tree) counts.detectors counts.observables counts.errors
   pub few : length (reached tree) < 2 ^ 64
+  pub room : count + counts.errors < 2 ^ 64
+
+-- a text writes a model of these lines
+pub record IsModelOf (text : List ℕ) (lines : List Placed) : Type 0 where
+  pub tree : Tree
+  pub writes : Writes text tree
+  pub short : has_many_lines tree ≡ false
+  pub within : first_beyond (placed_lines tree) ≡ None
+  pub lines_are : lines ≡ placed_lines tree

@@ -2,6 +2,7 @@
 -- (Stim's detector error model format, github.com/quantumlib/Stim, doc/file_format_dem_detector_error_model.md.)
 use Rattle.std.specs.Prelude.{◌≡◌, ℕ, ◌+◌, ◌<◌, ◌^◌, max, None, Bool, false, ◌&&◌, if◌then◌else◌, List, [], ◌∷◌, length, filter, slice_index_or}
 use Rattle.dem_text.specs.Reached.{has_many_lines}
+use Rattle.stim_lexer.specs.Cut.{cut_of}
 use Rattle.stim_lexer.specs.Reached.{reached, greatest_by}
 use Rattle.dem_text.specs.Trees.{Tree}
 use Rattle.dem_text.specs.declared.target.Target.{Target}
@@ -10,6 +11,8 @@ use Rattle.dem_text.specs.Meanings.{detector_count, detectors_to, is_error, obse
 use Rattle.dem_text.specs.private.Numbered.{numbers_of}
 use Rattle.dem_text.specs.Models.{first_beyond, placed_lines}
 use Rattle.dem_text.specs.Shifts.{Placed}
+use Rattle.dem_text.specs.Sums.{is_among}
+use Rattle.dem_text.specs.private.Standing.{read_targets}
 use Rattle.dem_text.specs.private.Turned.{turned}
 
 -- the greatest count of the targets of lines, or 0
@@ -34,6 +37,18 @@ abbrev pub turned_over : ℕ → List Bool → ℕ → List Placed → List Bool
 turned_over detectors named passed [] bits = bits
 turned_over detectors named passed (line ∷ lines) bits =
     turned_over detectors named (passed_after passed line) lines (turned_past detectors named passed line bits)
+
+-- truth values after error lines that are named: each flips those of its targets
+abbrev pub turned_lines : ℕ → List (List ℕ) → List Bool → List Bool
+turned_lines detectors [] bits = bits
+turned_lines detectors (line ∷ lines) bits = turned_lines detectors lines (turned bits (numbers_of detectors (read_targets (cut_of line).targets)))
+
+-- truth values after error lines that are named, and then after those of some lines whose numbers, from `first` on, are among
+-- these
+pub record HasTurned (detectors : ℕ) (numbers : List ℕ) (first : ℕ) (named : List (List ℕ)) (lines : List Placed) (bits bits' : List Bool) : Type 0 where
+  pub flags : List Bool
+  pub flags_are : (k : ℕ) → k < error_count lines → slice_index_or flags k false ≡ is_among numbers (first + k)
+  pub turned_are : bits' ≡ turned_over detectors flags 0 lines (turned_lines detectors named bits)
 
 -- the counts of some lines
 pub record AreCounts (lines : List Placed) (detectors observables errors : ℕ) : Type 0 where

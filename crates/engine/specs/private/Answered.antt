@@ -1,11 +1,11 @@
 -- What a call did to its sink that writes an output there.
 -- (This project's own.)
-use Rattle.std.specs.Prelude.{◌≡◌, ◌⊎◌, ℕ, List, Option, Result, IfOk, IfErr, OnOk, OnErr}
+use Rattle.std.specs.Prelude.{◌≡◌, ◌⊎◌, ℕ, Bool, true, false, List, Option, Result, IfOk, IfErr, OnOk, OnErr}
 use Rattle.step_model.specs.declared.fault.Fault.{Fault}
 use Rattle.step_model.specs.Ends.{Takes, TakesSome, write_failures}
 use Rattle.step_model.specs.Faults.{memory_fault, write_fault}
 use Rattle.step_model.specs.declared.order.Order.{Order}
-use Rattle.step_model.specs.declared.order.Order.TheVariants.{Analyze}
+use Rattle.step_model.specs.declared.order.Order.TheVariants.{Analyze, Predict}
 use Rattle.engine.specs.declared.order.Status.{Status}
 use Rattle.engine.specs.declared.order.Status.TheVariants.{Done, Random}
 use Rattle.engine.specs.Headline.{IsExactFor, IsRandomFor}
@@ -25,3 +25,8 @@ pub record AnswersOrder {S : Type 0} (taken : S → Option (List ℕ)) (failures
   pub answered : Answers taken failures old new (output_of order text) result
   pub exact : IfOk result (λ status. order ≡ Analyze → status ≡ Done → (bytes : List ℕ) × Takes (taken old) (taken new) bytes × IsExactFor text bytes)
   pub random : IfOk result (λ status. order ≡ Analyze → status ≡ Random → (bytes : List ℕ) × Takes (taken old) (taken new) bytes × IsRandomFor text bytes)
+
+-- whether an order takes the text of an error model
+abbrev pub is_prediction : Order → Bool
+is_prediction (Predict lines) = true
+is_prediction order = false

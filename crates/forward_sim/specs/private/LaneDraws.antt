@@ -1,9 +1,9 @@
 -- Drawing into one lane of a list of words: within a span of the words the lane becomes 1 where a truth value is true,
 -- and everything else stays. (This project's own.)
-use Rattle.std.specs.Prelude.{◌≡◌, ◌≢◌, ◌<◌, ◌≤◌, ℕ, ◌%◌, ◌==◌, nat_lt, Bool, ◌&&◌, ◌||◌, List, length, slice_index, slice_index_or}
+use Rattle.std.specs.Prelude.{◌≡◌, ◌≢◌, ◌<◌, ◌≤◌, ℕ, ◌+◌, ◌-◌, ◌%◌, ◌==◌, nat_lt, Bool, ◌&&◌, ◌||◌, List, length, slice_index, slice_index_or}
 use Rattle.rand_pcg.specs.Lcg.{Lcg}
 use Rattle.bit_rows.specs.Lanes.{lane_bit}
-use Rattle.forward_sim.specs.Drawn.{word_at}
+use Rattle.forward_sim.specs.Drawn.{after_words, word_at}
 use Rattle.forward_sim.specs.Shots.{is_tossed}
 use Rattle.forward_sim.specs.declared.span.Span.{Span}
 
@@ -30,3 +30,8 @@ toss_hits generator c = word_at generator c % 2 == 1
 
 abbrev pub coin_hits : Span → Lcg → ℕ → Bool
 coin_hits passed generator c = is_tossed passed c && toss_hits generator c
+
+-- faults of these bounds, from a place on, are drawn by the next words of a generator, which is left there
+pub record BoundsDrawn (j start : ℕ) (bounds : List ℕ) (generator : Lcg) (old new : List ℕ) (left : Lcg) : Type 0 where
+  pub drawn : DrawsInto j start (start + length bounds) (λ f. fault_hits bounds generator (f - start)) old new
+  pub taken : left ≡ after_words (length bounds) generator

@@ -23,9 +23,6 @@ returns-in-Run g c = only_answered _ c.in-Run.is (λ same. cc) c.answer_run.ensu
 pub returns-in-Faults : goal.returns-in-Faults
 returns-in-Faults g c = only_answered _ c.in-Faults.is (λ same. cc) c.answer_faults.ensures
 
-pub returns-in-Predict : goal.returns-in-Predict
-returns-in-Predict g c = only_answered _ c.in-Predict.is (λ same. cc) c.answer_prediction.ensures
-
 pub returns-in-Sample : goal.returns-in-Sample
 returns-in-Sample g c = only_answered _ c.in-Sample.is (λ same. cc) c.answer_shots.ensures
 

@@ -1,25 +1,31 @@
--- Each fault takes the next word.
-use Rattle.std.proofs.Common.{◌≡◌, ◌+◌, subst, arith}
+-- Fault after fault.
+use Rattle.std.proofs.Common.{◌≡◌, ◌+◌, ◌∷◌, [], length, replicate, sym, ap, subst, arith}
 use Rattle.std.specs.Prelude.{nat_lt}
-use Rattle.forward_sim.specs.private.LaneDraws.{DrawsInto}
-use Rattle.forward_sim.proofs.LaneWords.{DrawnByWords, drawn-none, drawn-more}
+use Rattle.std.proofs.lemmas.List.{length-replicate, replicate_more}
+use Rattle.forward_sim.specs.private.LaneDraws.{BoundsDrawn}
+use Rattle.forward_sim.proofs.BoundHits.{bounds_none, bounds_one, bounds_joined}
 use Rattle.forward_sim.proofs.lane_draws.draw_run.Goals as goal
 
 pub strike-requires : goal.strike-requires
-strike-requires c = record { within = omega (arith, c.loop-f.invariant.drawn.size, c.requires.within); lane = c.requires.lane }
+strike-requires c = record { within = omega (arith, c.loop-k.invariant.drawn.size, c.requires.within); lane = c.requires.lane }
 
-pub loop-f-init : goal.loop-f-init
-loop-f-init c = drawn-none c.args.lane c.args.start (λ w. nat_lt w c.args.bound) c.args.rng.now c.args.faults.now
+pub loop-k-init : goal.loop-k-init
+loop-k-init c = bounds_none c.args.lane c.args.start c.args.rng.now c.args.faults.now
 
-pub loop-f-preserved : goal.loop-f-preserved
-loop-f-preserved c =
-    let f = c.loop-f.f in
-    drawn-more c.args.lane c.args.start f (λ w. nat_lt w c.args.bound) c.args.rng.now c.loop-f.rng c.next_word.new.self c.next_word.result c.args.faults.now c.loop-f.faults c.strike.new.faults
-    (omega (arith, c.loop-f.auto.f)) c.loop-f.invariant c.next_word.ensures
-    (subst (λ w. DrawsInto c.args.lane f (f + 1) (λ k. nat_lt w c.args.bound) c.loop-f.faults c.strike.new.faults) c.from-word.ensures c.strike.ensures)
+pub loop-k-preserved : goal.loop-k-preserved
+loop-k-preserved c =
+    let start = c.args.start in
+    let bound = c.args.run.bound in
+    let k = c.loop-k.k in
+    let g = c.args.rng.now in
+    let so_far = replicate k bound in
+    let place : start + k ≡ start + length so_far = ap (λ n. start + n) (sym (length-replicate k bound)) in
+    subst (λ bounds. BoundsDrawn c.args.lane start bounds g c.args.faults.now c.strike.new.faults c.next_word.new.self) (replicate_more k bound)
+    (bounds_joined c.args.lane start (start + k) so_far (bound ∷ []) g c.loop-k.rng c.next_word.new.self c.args.faults.now c.loop-k.faults c.strike.new.faults place c.loop-k.invariant
+    (bounds_one c.args.lane (start + k) bound c.next_word.result (nat_lt c.from-word.result bound) c.loop-k.rng c.next_word.new.self c.loop-k.faults c.strike.new.faults c.next_word.ensures
+    (ap (λ w. nat_lt w bound) c.from-word.ensures) c.strike.ensures))
 
 pub returns : goal.returns
 returns c =
-    let over : c.loop-f.f ≡ c.args.end = omega (arith, c.requires.order) in
-    let all = subst (λ n. DrawnByWords c.args.lane c.args.start n (λ w. nat_lt w c.args.bound) c.args.rng.now c.args.faults.now c.loop-f.faults c.loop-f.rng) over c.loop-f.invariant in
-    record { drawn = all.drawn; taken = all.taken }
+    let over : c.loop-k.k ≡ c.args.run.count = omega arith in
+    subst (λ n. BoundsDrawn c.args.lane c.args.start (replicate n c.args.run.bound) c.args.rng.now c.args.faults.now c.loop-k.faults c.loop-k.rng) over c.loop-k.invariant

@@ -67,5 +67,5 @@ loop-number-init g c =
       left =
           ap₂ (λ k (p : KeptProgram). faults_named (drop k p.listing.steps)) c.start-walk.ensures.place c.start-walk.ensures.program
           ∙ (c.well_formed-2.ensures.listing.faults_in_order ∙ ap (range_with_len 0) whole);
-      bounds = ap (λ rs. bounds_in rs ++ bounds_of_run (record { bound = 0; count = 0 })) c.new-runs.ensures.items;
+      bounds = ap (λ rs. bounds_in rs ++ bounds_of_run (record { bound = 1; count = 0 })) c.new-runs.ensures.items;
     }

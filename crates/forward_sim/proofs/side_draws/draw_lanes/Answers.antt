@@ -1,10 +1,10 @@
 -- An odd shot goes into the last lane.
 use Rattle.std.proofs.Common.{◌≡◌, ◌+◌, ◌*◌, ◌/◌, ◌%◌, length, sym, ap, ap₂, subst, ◌∙◌, arith}
 use Rattle.std.specs.Prelude.{ℕ, ◌-◌}
-use Rattle.forward_sim.specs.private.BoundRuns.{bounds_in}
 use Rattle.forward_sim.specs.Drawn.{after_words, after_shots}
 use Rattle.forward_sim.specs.private.LaneDraws.{DrawsInto, coin_hits, fault_hits}
 use Rattle.forward_sim.specs.Shots.{AreDrawn}
+use Rattle.forward_sim.proofs.BoundHits.{drawn_from_first}
 use Rattle.forward_sim.proofs.SideLemmas.{one_more_drawn, one_more_taken}
 use Rattle.forward_sim.proofs.side_draws.draw_lanes.Goals as goal
 
@@ -15,30 +15,32 @@ odd_more : (count : ℕ) → count % 2 ≡ 1 → count - 1 + 1 ≡ count
 odd_more count odd = omega arith
 
 pub returns-then-count-eq1 : goal.returns-then-count-eq1
-returns-then-count-eq1 c =
-    let bounds = bounds_in c.args.runs.now in
+returns-then-count-eq1 g c =
+    let bounds = c.args.bounds.now in
     let n = length bounds in
     let collapses = length c.args.coins.now in
-    let g = c.args.rng.now in
+    let from = c.args.rng.now in
     let k = c.args.count - 1 in
     let pairs : k ≡ 2 * (c.args.count / 2) = odd_is c.args.count c.if-count-eq1.true in
     let whole : k + 1 ≡ c.args.count = odd_more c.args.count c.if-count-eq1.true in
-    let so_far : AreDrawn c.args.passed bounds collapses k g c.draw_halves.new.faults c.draw_halves.new.coins =
-    subst (λ m. AreDrawn c.args.passed bounds collapses m g c.draw_halves.new.faults c.draw_halves.new.coins) (sym pairs) c.draw_halves.ensures.drawn in
-    let at = c.draw_halves.ensures.taken ∙ ap (λ m. after_shots n collapses m g) (sym pairs) in
-    let tossed_from = c.draw_faults.ensures.taken ∙ ap (after_words n) at in
+    let so_far : AreDrawn c.args.passed bounds collapses k from c.draw_halves.new.faults c.draw_halves.new.coins =
+    subst (λ m. AreDrawn c.args.passed bounds collapses m from c.draw_halves.new.faults c.draw_halves.new.coins) (sym pairs) c.draw_halves.ensures.drawn in
+    let at = c.draw_halves.ensures.taken ∙ ap (λ m. after_shots n collapses m from) (sym pairs) in
+    let drawn = c.draw_faults.ensures in
+    let tossed_from = drawn.taken ∙ ap (after_words n) at in
     let faults =
-    subst (λ r. DrawsInto k 0 n (fault_hits bounds r) c.draw_halves.new.faults c.draw_faults.new.faults) at c.draw_faults.ensures.drawn in
+    subst (λ r. DrawsInto k 0 n (fault_hits bounds r) c.draw_halves.new.faults c.draw_faults.new.faults) at
+    (drawn_from_first k bounds c.draw_halves.new.rng c.draw_faults.new.rng c.draw_halves.new.faults c.draw_faults.new.faults drawn) in
     let coins =
-    subst (λ m. DrawsInto k 0 m (coin_hits c.args.passed (after_words n (after_shots n collapses k g))) c.draw_halves.new.coins c.draw_coins.new.coins) so_far.coin_count
+    subst (λ m. DrawsInto k 0 m (coin_hits c.args.passed (after_words n (after_shots n collapses k from))) c.draw_halves.new.coins c.draw_coins.new.coins) so_far.coin_count
     (subst (λ r. DrawsInto k 0 (length c.draw_halves.new.coins) (coin_hits c.args.passed r) c.draw_halves.new.coins c.draw_coins.new.coins) tossed_from c.draw_coins.ensures.drawn) in
     record {
       drawn =
-          subst (λ m. AreDrawn c.args.passed bounds collapses m g c.draw_faults.new.faults c.draw_coins.new.coins) whole
-          (one_more_drawn c.args.passed bounds collapses k g c.draw_halves.new.faults c.draw_faults.new.faults c.draw_halves.new.coins c.draw_coins.new.coins
+          subst (λ m. AreDrawn c.args.passed bounds collapses m from c.draw_faults.new.faults c.draw_coins.new.coins) whole
+          (one_more_drawn c.args.passed bounds collapses k from c.draw_halves.new.faults c.draw_faults.new.faults c.draw_halves.new.coins c.draw_coins.new.coins
           (omega (arith, c.requires.count)) so_far faults coins);
       taken =
           c.draw_coins.ensures.taken
           ∙ (ap₂ after_words so_far.coin_count tossed_from
-          ∙ (one_more_taken n collapses k g ∙ ap (λ m. after_shots n collapses m g) whole));
+          ∙ (one_more_taken n collapses k from ∙ ap (λ m. after_shots n collapses m from) whole));
     }

@@ -1,7 +1,7 @@
 //! Error models that are read: the coordinates of their detectors, and what named lines flip.
-use dem_text::{Model, PlacedModel, laws, model_laws, place, read, symptom};
+use dem_text::{Model, keep_text, laws, model_laws, read, symptom};
 use std::alloc::{AllocError, Global};
-use step_model::Fault;
+use step_model::{Fault, MemorySource};
 
 /// Whether a model has these coordinates, of each detector how many and which.
 fn has_coordinates(
@@ -56,18 +56,37 @@ fn models_are_read(rt: HostRuntime) {
     assert!(rt; matches!(has_model(rt.alloc()), Ok(true)));
 }
 
-/// The same of a model whose lines stay in the text.
-fn is_placed(alloc: Global, model: &PlacedModel<'_, Global>) -> Result<bool, Fault> {
-    let flipped = model.symptom(alloc, &[true, true])?;
-    Ok(model.line_count() == 2 && flipped.as_slice() == SYMPTOM)
-}
+/// Two error lines that the text begins with, of which the second is kept, then lines that name them and one behind a shift.
+const KEPT: &[u8] =
+    b"error(0.1) D0\nerror(0.2) D1 L0\ndetector D2\nshift_detectors 1\nerror(0.3) D0 D1\n";
 
-fn has_placed(alloc: Global) -> Result<bool, Fault> {
-    let model = place(alloc, MODEL)?;
-    Ok(is_placed(alloc, &model)?)
+/// What the second and the third line flip: detectors 0 to 2, and the observable.
+const KEPT_SYMPTOM: &[bool] = &[false, false, true, true];
+
+fn has_kept(alloc: Global) -> Result<bool, Fault> {
+    let numbers = [1, 2];
+    let mut source = MemorySource::new(KEPT);
+    let kept = keep_text(alloc, &numbers, &mut source)?;
+    match kept.symptom(alloc, &numbers)? {
+        Some(flipped) => Ok(flipped.as_slice() == KEPT_SYMPTOM),
+        None => Ok(false),
+    }
 }
 
 #[test]
-fn models_are_placed(rt: HostRuntime) {
-    assert!(rt; matches!(has_placed(rt.alloc()), Ok(true)));
+fn texts_are_kept(rt: HostRuntime) {
+    assert!(rt; matches!(has_kept(rt.alloc()), Ok(true)));
+}
+
+/// A number that isn't below the count of the error lines.
+fn has_no_line(alloc: Global) -> Result<bool, Fault> {
+    let numbers = [3];
+    let mut source = MemorySource::new(KEPT);
+    let kept = keep_text(alloc, &numbers, &mut source)?;
+    Ok(kept.symptom(alloc, &numbers)?.is_none())
+}
+
+#[test]
+fn lines_that_are_not_there_have_no_symptom(rt: HostRuntime) {
+    assert!(rt; matches!(has_no_line(rt.alloc()), Ok(true)));
 }

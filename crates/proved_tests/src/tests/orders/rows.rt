@@ -107,8 +107,8 @@ logical_observable L1
 ";
 
 /// An order on a text, what is written so many times over, how that ends, and how many growths the order does without where one is
-/// refused. Coins that are given are collected, which goes on in smaller steps where the room for all of them is refused. Coordinates,
-/// where there are any, move to a block just as long, or else stay; so do their ends, where later turns left room.
+/// refused. Coins and lines that are given are collected, which goes on in smaller steps where the room for all of them is refused.
+/// Coordinates, where there are any, move to a block just as long, or else stay; so do their ends, where later turns left room.
 pub(super) struct Row {
     pub order: Order<'static>,
     pub text: &'static str,
@@ -293,7 +293,7 @@ coins 25
         output: "010010\n",
         times: 1,
         status: Status::Done,
-        spared: 0,
+        spared: 1,
     },
     Row {
         order: Order::Predict { lines: b"10" },
@@ -301,7 +301,7 @@ coins 25
         output: "refused 51 line 0\n",
         times: 1,
         status: Status::Refused,
-        spared: 0,
+        spared: 1,
     },
     Row {
         order: Order::Predict { lines: b"" },

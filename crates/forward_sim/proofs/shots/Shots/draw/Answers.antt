@@ -3,8 +3,6 @@ use Rattle.std.proofs.Common.{◌≡◌, ℕ, List, ◌++◌, drop, length, take
 use Rattle.std.proofs.Math.Seq.{take-append_seam}
 use Rattle.forward_sim.specs.Drawn.{after_shots}
 use Rattle.forward_sim.specs.Shots.{AreDrawn, ShotWords}
-use Rattle.forward_sim.specs.private.BoundRuns.{bounds_in}
-use Rattle.forward_sim.specs.declared.runs.BoundRun.{BoundRun}
 use Rattle.forward_sim.proofs.shots.Shots.draw.Goals as goal
 
 -- what a list of n words holds once these are written over its first
@@ -17,7 +15,7 @@ over n new old h = ap (λ k. take k (new ++ drop (length new) old)) (sym h) ∙ 
 pub draw_lanes-requires-clause-room : goal.draw_lanes-requires-clause-room
 draw_lanes-requires-clause-room g c =
     record {
-      faults_fit = ap length c.deref_mut.ensures.value ∙ c.self.invariant.faults_fit ∙ sym (ap (λ (rs : List BoundRun). length (bounds_in rs)) c.as_slice.ensures.value);
+      faults_fit = ap length c.deref_mut.ensures.value ∙ c.self.invariant.faults_fit;
       order = c.self.invariant.order;
       within = omega (arith, c.self.invariant.within, ap length c.deref_mut-2.ensures.value);
     }
@@ -25,13 +23,12 @@ draw_lanes-requires-clause-room g c =
 pub invariant_of-self : goal.invariant_of-self
 invariant_of-self g c =
     let drawn = c.draw_lanes.ensures.drawn in
-    let bounds = ap (λ (rs : List BoundRun). length (bounds_in rs)) c.as_slice.ensures.value in
     let coins = drawn.coin_count ∙ ap length c.deref_mut-2.ensures.value in
     let faults_len : length c.draw_lanes.new.faults ≡ c.self.inside.faults.len =
-    omega (arith, drawn.fault_count, bounds, c.self.invariant.faults_fit, c.self.inside.faults.ok.0) in
+    omega (arith, drawn.fault_count, c.self.invariant.faults_fit, c.self.inside.faults.ok.0) in
     let coins_len : length c.draw_lanes.new.coins ≡ c.self.inside.coins.len = omega (arith, coins, c.self.inside.coins.ok.0) in
     record {
-      faults_fit = ap length (over c.self.inside.faults.len c.draw_lanes.new.faults c.self.inside.faults.items faults_len) ∙ drawn.fault_count ∙ bounds;
+      faults_fit = ap length (over c.self.inside.faults.len c.draw_lanes.new.faults c.self.inside.faults.items faults_len) ∙ drawn.fault_count;
       order = c.self.invariant.order;
       within = omega (arith, c.self.invariant.within, coins, ap length (over c.self.inside.coins.len c.draw_lanes.new.coins c.self.inside.coins.items coins_len));
     }
@@ -43,19 +40,17 @@ returns-clause-drawn g c =
     let faults = c.draw_lanes.new.faults in
     let coins = c.draw_lanes.new.coins in
     let drawn = c.draw_lanes.ensures.drawn in
-    let bounds = ap (λ (rs : List BoundRun). length (bounds_in rs)) c.as_slice.ensures.value in
     let count = drawn.coin_count ∙ ap length c.deref_mut-2.ensures.value in
-    let faults_len : length faults ≡ inside.faults.len = omega (arith, drawn.fault_count, bounds, c.self.invariant.faults_fit, inside.faults.ok.0) in
+    let faults_len : length faults ≡ inside.faults.len = omega (arith, drawn.fault_count, c.self.invariant.faults_fit, inside.faults.ok.0) in
     let coins_len : length coins ≡ inside.coins.len = omega (arith, count, inside.coins.ok.0) in
-    let of_runs = subst (λ (rs : List BoundRun). AreDrawn inside.passed (bounds_in rs) (length c.deref_mut-2.result.now) c.args.count rng faults coins) c.as_slice.ensures.value drawn in
-    let of_coins = subst (λ (cs : List ℕ). AreDrawn inside.passed (bounds_in inside.runs.items) (length cs) c.args.count rng faults coins) c.deref_mut-2.ensures.value of_runs in
+    let of_coins = subst (λ (cs : List ℕ). AreDrawn inside.passed inside.bounds (length cs) c.args.count rng faults coins) c.deref_mut-2.ensures.value drawn in
     subst (λ (s : ShotWords). AreDrawn s.passed s.bounds (length s.coins) c.args.count rng (written inside.faults.len faults inside.faults.items) (written inside.coins.len coins inside.coins.items)) c.self.view_is
-    (subst (λ (fs : List ℕ). AreDrawn inside.passed (bounds_in inside.runs.items) (length inside.coins.items) c.args.count rng fs (written inside.coins.len coins inside.coins.items)) (sym (over inside.faults.len faults inside.faults.items faults_len))
-    (subst (λ (cs : List ℕ). AreDrawn inside.passed (bounds_in inside.runs.items) (length inside.coins.items) c.args.count rng faults cs) (sym (over inside.coins.len coins inside.coins.items coins_len)) of_coins))
+    (subst (λ (fs : List ℕ). AreDrawn inside.passed inside.bounds (length inside.coins.items) c.args.count rng fs (written inside.coins.len coins inside.coins.items)) (sym (over inside.faults.len faults inside.faults.items faults_len))
+    (subst (λ (cs : List ℕ). AreDrawn inside.passed inside.bounds (length inside.coins.items) c.args.count rng faults cs) (sym (over inside.coins.len coins inside.coins.items coins_len)) of_coins))
 
 pub returns-clause-taken : goal.returns-clause-taken
 returns-clause-taken g c =
     c.draw_lanes.ensures.taken
     ∙ ap₂ (λ bounds coins. after_shots bounds coins c.args.count c.args.rng.now)
-    (ap (λ (rs : List BoundRun). length (bounds_in rs)) c.as_slice.ensures.value ∙ ap (λ (s : ShotWords). length s.bounds) c.self.view_is)
+    (ap (λ (s : ShotWords). length s.bounds) c.self.view_is)
     (ap length c.deref_mut-2.ensures.value ∙ ap (λ (s : ShotWords). length s.coins) c.self.view_is)

@@ -1,0 +1,58 @@
+//! A list of numbers that is read before it is known how many things they number: the numbers are kept, and not marks.
+ghost use Rattle.std.specs.Prelude.{◌≡◌, ◌↔◌, is_some, None, Some, IfOk, IsTrue, MatchOption};
+ghost use Rattle.std.specs.List.{filter_map, list_all, slice_split};
+ghost use Rattle.std.specs.List.Sorted.{IsStrictlyIncreasing};
+ghost use Rattle.forward_sim.specs.Listed.{IsListOf, IsNoList};
+ghost use Rattle.forward_sim.specs.private.Numbers.{is_comma, number_below};
+
+use crate::lists::number_below;
+use std::alloc::{AllocError, Allocator};
+
+/// The numbers that a text lists, ascending: decimal numbers joined by commas, or nothing. None where the text is no such
+/// list, names a number twice, or names one that is below no count of 64 bits.
+pub fn listed_numbers<A: Allocator + Copy>(
+    alloc: A,
+    text: &[u8],
+) -> Result<Option<Vec<usize, A>>, AllocError>
+    ensures { IfOk result (λ listed. MatchOption listed (IsNoList text.now)
+        (λ numbers. IsListOf text.now numbers.items)) }
+{
+    if text.is_empty() {
+        return Ok(Some(Vec::new(alloc)));
+    }
+    if !are_numbers(text) {
+        return Ok(None);
+    }
+    let mut numbers = numbers_in_turn(alloc, text)?;
+    numbers.sort_unstable();
+    if !rise(&numbers) {
+        return Ok(None);
+    }
+    Ok(Some(numbers))
+}
+
+/// Whether each piece between commas is a number below 2^64 - 1.
+fn are_numbers(text: &[u8]) -> bool
+    ensures { result ≡ list_all (λ piece. is_some (number_below usize.MAX piece))
+        (slice_split is_comma text.now) }
+{
+    text.split(|b| *b == b',')
+        .all(|piece| number_below(usize::MAX, piece).is_some())
+}
+
+/// The numbers of the pieces between commas, in their order.
+fn numbers_in_turn<A: Allocator + Copy>(alloc: A, text: &[u8]) -> Result<Vec<usize, A>, AllocError>
+    ensures { IfOk result (λ numbers. numbers.items
+        ≡ filter_map (number_below usize.MAX) (slice_split is_comma text.now)) }
+{
+    text.split(|b| *b == b',')
+        .filter_map(|piece| number_below(usize::MAX, piece))
+        .collect(alloc)
+}
+
+/// Whether each number is below the next.
+fn rise(numbers: &[usize]) -> bool
+    ensures { IsTrue result ↔ IsStrictlyIncreasing numbers.now }
+{
+    numbers.is_sorted_by(|a, b| a < b)
+}
