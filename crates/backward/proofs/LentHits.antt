@@ -18,7 +18,7 @@ pub gives_none : (holds : List ErrorLine → Type 0) (text ts : List ℕ) → (l
 gives_none holds text [] none given h = subst holds (sym (append-nil given)) h
 gives_none holds text (t ∷ ts) none given h = absurd (omega (arith, eqb-true (suc (length ts)) 0 none))
 
-line_for_some : (text ts : List ℕ) → (length ts == 0) ≡ false → record { text = text; targets = ts } ∷ [] ≡ line_for text ts
+pub line_for_some : (text ts : List ℕ) → (length ts == 0) ≡ false → record { text = text; targets = ts } ∷ [] ≡ line_for text ts
 line_for_some text [] some = cc
 line_for_some text (t ∷ ts) some = refl
 

@@ -2,6 +2,9 @@ mod AnswerLemmas
 pub mod Judging
 mod HeldLines
 mod LentHits
+pub mod LinesTurned
+pub mod MovedFilters
+pub mod MovedLemmas
 mod NumberedLemmas
 pub mod PassFaults
 pub mod PassLines
@@ -12,5 +15,10 @@ pub mod PassSteps
 pub mod PassWords
 mod PointLemmas
 mod RecordMembers
+mod SegmentLemmas
 mod StepLemmas
 mod StretchLemmas
+pub mod TurnLemmas
+pub mod TurnLineLemmas
+pub mod TurnJumps
+pub mod TurnPasses

@@ -37,7 +37,7 @@ lines_found program (step ∷ steps) = lines_found program steps ++ first_lines 
 abbrev line_among : Listing → List ListedStep → ℕ → List ErrorLine
 line_among program steps f = line_for (fault_at program f).text (filter (λ d. hits_among program (target_at program d) f steps) (range_with_len 0 (target_count program)))
 
-reverse_line : (text ts : List ℕ) → reverse (line_for text ts) ≡ line_for text ts
+pub reverse_line : (text ts : List ℕ) → reverse (line_for text ts) ≡ line_for text ts
 reverse_line text [] = refl
 reverse_line text (t ∷ ts) = refl
 

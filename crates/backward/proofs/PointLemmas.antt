@@ -1,6 +1,6 @@
 -- Points left on the way back, and taken from their end.
-use Rattle.std.proofs.Common.{◌≡◌, ℕ, ◌+◌, ◌<◌, ◌≤◌, List, [], ◌∷◌, ◌++◌, ◌⊎◌, inl, inr, length, drop, get_or, Option, Some, refl, ap, subst, sym, ◌∙◌, arith}
-use Rattle.std.specs.Prelude.{All}
+use Rattle.std.proofs.Common.{◌≡◌, ℕ, ◌+◌, ◌<◌, ◌≤◌, List, [], ◌∷◌, ◌++◌, ◌⊎◌, inl, inr, length, drop, get_or, Option, None, Some, refl, ap, subst, sym, ◌∙◌, arith}
+use Rattle.std.specs.Prelude.{IfSome, All}
 use Rattle.std.specs.Option.{option_to_list}
 use Rattle.std.proofs.Math.Seq.{get_or-append_seam}
 use Rattle.std.proofs.lemmas.List.{length-append, get_or_append_left}
@@ -9,6 +9,10 @@ use Rattle.std.proofs.lemmas.List.Quantifiers.{all_pairs_push}
 use Rattle.programs.specs.Kept.{KeptProgram}
 use Rattle.backward.specs.declared.found.Found.{Found}
 use Rattle.backward.specs.declared.point.KeptPoint.{KeptPoint}
+use Rattle.backward.specs.declared.turns.KeptTurns.{KeptTurns}
+use Rattle.backward.specs.declared.points.Segment.{Segment}
+use Rattle.backward.specs.private.Segments.{AreTurnsAt, IsSegment, turns_end}
+use Rattle.backward.specs.private.Turns.{AreKept, AreTurnsOf}
 use Rattle.backward.specs.declared.point.Point.{Point}
 use Rattle.backward.specs.declared.stretch.Parts.{Parts}
 use Rattle.trackers.specs.Tracked.{Tracked}
@@ -18,6 +22,13 @@ use Rattle.backward.specs.private.Points.{ArePoints, AreParts, IsLeft, IsPointOf
 -- the points at a place of the way back: none yet where the way begins, one of which is left there next
 abbrev pub OnWay : {A : Type 0} → KeptProgram → (from cut place next : ℕ) → List (KeptPoint A) → Type 0
 OnWay program from cut place next points = ((place ≡ cut) × ((points ≡ []) × (place ≤ next))) ⊎ ((place < cut) × ArePoints program from cut points)
+
+-- turns that begin at a place and are before all of some points
+pub record KeptOnWay {A : Type 0} (program : KeptProgram) (cut place : ℕ) (points : List (KeptPoint A)) (kept : KeptTurns A) : Type 0 where
+  pub turns : AreTurnsOf program kept
+  pub start_is : kept.start ≡ place
+  pub below : kept.end < cut
+  pub behind : All (λ p. kept.end < p.walk.place) points
 
 -- the last of some points was taken: it comes after `from`, and those before it after its place
 pub record IsPopped {A : Type 0} (program : KeptProgram) (from cut : ℕ) (rest : List (KeptPoint A)) (point : KeptPoint A) : Type 0 where
@@ -58,12 +69,12 @@ module _ {A : Type 0} (program : KeptProgram) where
   pub first_point : {T : Type 0} (tracked : T → Tracked) (from cut : ℕ) (at : Point A T) (found : Found A) (old new : List (KeptPoint A)) → old ≡ [] → cut ≡ at.walk.place → from < at.walk.place → at.walk.program ≡ program → IsPassed program.listing at.walk.place (tracked at.tracker) found
       → IsLeft tracked at old new → ArePoints program from cut new
   first_point tracked from cut at found old new none e lt is h left =
-      let place : left.point.walk.place ≡ at.walk.place = ap (λ walk. walk.place) left.walk in
+      let place : left.point.walk.place ≡ at.walk.place = ap (λ walk. walk.place) left.kept.walk in
       let one : new ≡ left.point ∷ [] = left.items ∙ ap (λ (l : List (KeptPoint A)). l ++ left.point ∷ []) none in
       subst (ArePoints program from cut) (sym one)
       (record {
         first = place ∙ sym e;
-        each = All-push (IsPointOf program) [] left.point (λ k d lt. absurd (omega (arith, lt))) (is_point tracked at left.point found is h left.walk left.words);
+        each = All-push (IsPointOf program) [] left.point (λ k d lt. absurd (omega (arith, lt))) (is_point tracked at left.point found is h left.kept.walk left.kept.words);
         above = All-push (λ p. from < p.walk.place) [] left.point (λ k d lt. absurd (omega (arith, lt))) (omega (arith, place, lt));
         below = All-push (λ p. p.walk.place ≤ cut) [] left.point (λ k d lt. absurd (omega (arith, lt))) (omega (arith, place, e));
         fall = λ j k d lt within. absurd (omega (arith, within, lt));
@@ -72,11 +83,11 @@ module _ {A : Type 0} (program : KeptProgram) where
   pub next_point : {T : Type 0} (tracked : T → Tracked) (from cut : ℕ) (at : Point A T) (found : Found A) (old new : List (KeptPoint A)) → from < at.walk.place → at.walk.place < cut → at.walk.program ≡ program → IsPassed program.listing at.walk.place (tracked at.tracker) found
       → All (λ p. at.walk.place < p.walk.place) old → IsLeft tracked at old new → ArePoints program from cut old → ArePoints program from cut new
   next_point tracked from cut at found old new lt below is h before left points =
-      let place : left.point.walk.place ≡ at.walk.place = ap (λ walk. walk.place) left.walk in
+      let place : left.point.walk.place ≡ at.walk.place = ap (λ walk. walk.place) left.kept.walk in
       subst (ArePoints program from cut) (sym left.items)
       (record {
         first = one_first from old left.point ∙ some_first from cut old left.point.walk.place points.first (omega (arith, lt, below));
-        each = All-push (IsPointOf program) old left.point points.each (is_point tracked at left.point found is h left.walk left.words);
+        each = All-push (IsPointOf program) old left.point points.each (is_point tracked at left.point found is h left.kept.walk left.kept.words);
         above = All-push (λ p. from < p.walk.place) old left.point points.above (omega (arith, place, lt));
         below = All-push (λ p. p.walk.place ≤ cut) old left.point points.below (omega (arith, place, below));
         fall = all_pairs_push (λ early late. late.walk.place < early.walk.place) old left.point points.fall (λ k d within. let after : at.walk.place < (get_or old k d).walk.place = before k d within in omega (arith, place, after));
@@ -98,7 +109,7 @@ module _ {A : Type 0} (program : KeptProgram) where
   -- after a point is left, it and those before it are no earlier than where the pass is
   pub left_behind : {T : Type 0} (tracked : T → Tracked) (at : Point A T) (old new : List (KeptPoint A)) → All (λ p. at.walk.place < p.walk.place) old → IsLeft tracked at old new → All (λ p. at.walk.place ≤ p.walk.place) new
   left_behind tracked at old new before left =
-      let place : left.point.walk.place ≡ at.walk.place = ap (λ walk. walk.place) left.walk in
+      let place : left.point.walk.place ≡ at.walk.place = ap (λ walk. walk.place) left.kept.walk in
       subst (All (λ p. at.walk.place ≤ p.walk.place)) (sym left.items)
       (All-push (λ p. at.walk.place ≤ p.walk.place) old left.point (λ k d lt. let after : at.walk.place < (get_or old k d).walk.place = before k d lt in omega (arith, after)) (omega (arith, place)))
 
@@ -132,3 +143,50 @@ module _ {A : Type 0} (program : KeptProgram) where
   cut_before start to known parts lt h =
       let back : h.cut < to = h.back lt in
       (omega (arith, h.above, h.points.first), omega (arith, back, h.points.first))
+
+  -- turns that were gone back over are before the points that there are
+  pub kept_way : (cut place most : ℕ) (points : List (KeptPoint A)) (o : Option (KeptTurns A)) → most ≤ cut → All (λ p. most ≤ p.walk.place) points → IfSome o (AreKept program place most) → IfSome o (KeptOnWay program cut place points)
+  kept_way cut place most points None le all h = tt
+  kept_way cut place most points (Some kept) le all h =
+      let below = h.below in
+      record {
+        turns = h.turns;
+        start_is = h.start_is;
+        below = omega (arith, below, le);
+        behind = λ k d lt. let after : most ≤ (get_or points k d).walk.place = all k d lt in omega (arith, below, after);
+      }
+
+  -- what a way back leaves that ends with turns, or with the way
+  pub segment_of : (from cut place next : ℕ) (segment : Segment A) → segment.start ≡ place → from ≤ place → place ≤ cut → OnWay program from cut place next segment.points.items
+      → IfSome segment.turns (KeptOnWay program cut place segment.points.items) → (segment.turns ≡ None → place ≡ from) → IsSegment program from cut segment
+  segment_of from cut place next segment start above below way kept whole =
+      let both = by segment.turns kept whole in
+      record {
+        points = both.0;
+        turns = both.1.0;
+        above = omega (arith, start, above);
+        below = omega (arith, start, below);
+        back = λ lt. let less = both.1.1 lt in omega (arith, start, less);
+        whole = λ none. start ∙ whole none;
+      }
+    where
+      by : (o : Option (KeptTurns A)) → IfSome o (KeptOnWay program cut place segment.points.items) → (o ≡ None → place ≡ from)
+          → ArePoints program (turns_end segment.start o) cut segment.points.items × (AreTurnsAt program segment.start o × (from < cut → place < cut))
+      by None h end =
+          let here : place ≡ from = end refl in (
+            subst (λ k. ArePoints program k cut segment.points.items) (sym (start ∙ here)) (end_of_way from cut place next segment.points.items here way),
+            (tt, λ lt. omega (arith, lt, here)),
+          )
+      by (Some kept) h end = elim way as (λ _. ArePoints program kept.end cut segment.points.items × ((AreTurnsOf program kept × (kept.start ≡ segment.start)) × (from < cut → place < cut))) [
+        | inl first ↦ absurd (let before = h.turns.before in let less = h.below in let is = h.start_is in let here = first.0 in omega (arith, before, less, is, here))
+        | inr on ↦ (
+          record {
+            first = some_first from cut segment.points.items kept.end on.1.first (omega (arith, above, on.0));
+            each = on.1.each;
+            above = h.behind;
+            below = on.1.below;
+            fall = on.1.fall;
+          },
+          ((h.turns, h.start_is ∙ sym start), λ lt. on.0),
+        )
+      ]

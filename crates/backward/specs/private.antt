@@ -1,7 +1,12 @@
 pub mod Answered
 pub mod Collapses
+pub mod MovedTargets
 pub mod Numbered
 pub mod Passes
 pub mod Points
 pub mod Steps
+pub mod Repeats
+pub mod Segments
 pub mod Stretches
+pub mod TurnLines
+pub mod Turns

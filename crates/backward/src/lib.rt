@@ -7,12 +7,17 @@ mod collapse;
 mod faults;
 mod found;
 mod line_store;
+mod moved;
 mod pass;
 mod places;
 mod point;
 mod points;
+mod segments;
 mod stretch;
 mod text_store;
+mod turn_lines;
+mod turns;
+mod whole;
 mod writing;
 
 pub use analysis::{Analysed, analyse};

@@ -1,49 +1,113 @@
 //! Points left on the way back over a stretch of steps, from where further passes start.
-ghost use Rattle.std.specs.Prelude.{◌≡◌, ◌<◌, ◌≤◌, IfOk, OnOk};
+ghost use Rattle.std.specs.Prelude.{◌≡◌, ◌<◌, ◌≤◌, false, None, IfOk, IfSome, OnOk};
 ghost use Rattle.backward.specs.private.Passes.{IsPassed, Stays};
-ghost use Rattle.backward.specs.private.Points.{ArePoints, IsLeft};
+ghost use Rattle.backward.specs.private.Points.{IsKept, IsLeft};
+ghost use Rattle.backward.specs.private.Segments.{IsSegment};
+ghost use Rattle.backward.specs.private.Turns.{AreKept, ArePassed};
 
 use crate::found::Found;
 use crate::line_store::NoLines;
 use crate::pass::go_over;
 use crate::point::{KeptPoint, Point};
+use crate::turns::{KeptTurns, Looks, pass_turns};
 use programs::{Program, Step};
 use std::alloc::{AllocError, Allocator};
 use trackers::Tracker;
 
-/// Goes back to `from`, finds no lines, and leaves points on the way: one where it begins, and further ones `distance`
-/// steps apart.
+/// How many times as far as points lie apart a turn may go for it to be looked at: what is between two points is held.
+const LONGEST: usize = 8;
+
+/// The part of a way back that ends with turns that repeat, or with the way.
+#[derive(Drop)]
+pub(crate) struct Segment<'p, 'a, A: Allocator + Copy> {
+    /// Points, the first of them where the part begins.
+    pub(crate) points: Vec<KeptPoint<'p, 'a, A>, A>,
+    /// The turns before all of them that repeat, if there are any.
+    pub(crate) turns: Option<KeptTurns<'p, 'a, A>>,
+    /// The place where it ends, which is before all others.
+    pub(crate) start: usize,
+}
+
+/// Goes back to `from`, or where it is `looking` over the first turns that repeat, finds no lines, and leaves points on the way: one where it
+/// begins, and further ones `distance` steps apart.
 #[inline(never)]
 pub(crate) fn leave_points<'s, 'p, 'a, A: Allocator + Copy, T: Tracker>(
-    program: &Program<'a, A>,
+    program: &'p Program<'a, A>,
+    looking: bool,
     from: usize,
     distance: usize,
     at: &mut Point<'p, 'a, A, T>,
     found: &mut Found<'s, A>,
-) -> Result<Vec<KeptPoint<'p, 'a, A>, A>, AllocError>
+) -> Result<Segment<'p, 'a, A>, AllocError>
     requires program { at.old.walk.program ≡ program.now }
     requires from { from ≤ at.old.walk.place }
     requires passed { IsPassed program.now.listing at.old.walk.place (T.tracked at.old.tracker)
         found.old }
     ensures program { at.new.walk.program ≡ at.old.walk.program }
-    ensures place { OnOk result (at.new.walk.place ≡ from) }
+    ensures place { IfOk result (λ segment. segment.start ≡ at.new.walk.place) }
     ensures passed { OnOk result
         (IsPassed program.now.listing at.new.walk.place (T.tracked at.new.tracker) found.new) }
     ensures stays { Stays found.old found.new }
-    ensures points { IfOk result (λ points. ArePoints program.now from at.old.walk.place
-        points.items) }
+    ensures segment { IfOk result (IsSegment program.now from at.old.walk.place) }
+    ensures plain { looking ≡ false → IfOk result (λ segment. segment.turns ≡ None) }
 {
+    let end = at.walk.place();
     let mut points = Vec::new(*found.alloc);
-    let mut next = at.walk.place();
-    while at.walk.place() > from {
+    let mut next = end;
+    let mut looks = Looks::at(end, distance);
+    let mut turns = None;
+    let longest = distance.saturating_mul(LONGEST);
+    while turns.is_none() && at.walk.place() > from {
         if at.walk.place() <= next {
             leave(&mut points, at)?;
             next = next.saturating_sub(distance);
         }
-        let to = next.max(from).min(at.walk.place() - 1);
-        back_without_lines(program, to, at, found)?;
+        turns = back_over(program, looking, from, next, longest, at, found, &mut looks)?;
     }
-    Ok(points)
+    Ok(Segment {
+        points,
+        turns,
+        start: at.walk.place(),
+    })
+}
+
+// Goes back over some steps before a point, which there is: where it is `looking` over turns that repeat, which it answers; else over a step, or
+// over faults.
+#[inline(always)]
+fn back_over<'s, 'p, 'a, A: Allocator + Copy, T: Tracker>(
+    program: &'p Program<'a, A>,
+    looking: bool,
+    from: usize,
+    next: usize,
+    longest: usize,
+    at: &mut Point<'p, 'a, A, T>,
+    found: &mut Found<'s, A>,
+    looks: &mut Looks,
+) -> Result<Option<KeptTurns<'p, 'a, A>>, AllocError>
+    requires program { at.old.walk.program ≡ program.now }
+    requires from { from < at.old.walk.place }
+    requires passed { IsPassed program.now.listing at.old.walk.place (T.tracked at.old.tracker)
+        found.old }
+    ensures passed { ArePassed T.tracked program.now from at.old at.new found.old found.new result }
+    ensures back { OnOk result (at.new.walk.place < at.old.walk.place) }
+    ensures turns { IfOk result (λ kept. IfSome kept (AreKept program.now at.new.walk.place
+        at.old.walk.place)) }
+    ensures plain { looking ≡ false → IfOk result (λ kept. kept ≡ None) }
+{
+    let place = at.walk.place();
+    let ask = if looking { looks.ask } else { 0 };
+    if place <= ask {
+        let mut lines = NoLines { program };
+        let turns = pass_turns(program, from, longest, at, found, &mut lines, looks)?;
+        if at.walk.place() < place {
+            return Ok(turns);
+        }
+    }
+    let to = next.max(from).max(ask).min(place - 1);
+    match back_without_lines(program, to, at, found) {
+        Ok(()) => Ok(None),
+        Err(error) => Err(error),
+    }
 }
 
 // Goes back over the step before a point, and where it is a fault over the faults right before it, to a place at most.
@@ -83,10 +147,21 @@ fn leave<'p, 'a, A: Allocator + Copy, T: Tracker>(
 ) -> Result<(), AllocError>
     ensures { OnOk result (IsLeft T.tracked at.now points.old.items points.new.items) }
 {
-    let lists = at.tracker.keep(*points.allocator())?;
-    points.push(KeptPoint {
+    let point = kept_point(*points.allocator(), at)?;
+    points.push(point)?;
+    Ok(())
+}
+
+/// The same point, with its words as lists.
+pub(crate) fn kept_point<'p, 'a, A: Allocator + Copy, T: Tracker>(
+    alloc: A,
+    at: &Point<'p, 'a, A, T>,
+) -> Result<KeptPoint<'p, 'a, A>, AllocError>
+    ensures { IfOk result (IsKept T.tracked at.now) }
+{
+    let lists = at.tracker.keep(alloc)?;
+    Ok(KeptPoint {
         walk: at.walk.copy(),
         lists,
-    })?;
-    Ok(())
+    })
 }

@@ -10,7 +10,7 @@ ghost use Rattle.backward.specs.private.Points.{AreParts, ArePoints, IsFor, IsPo
 use crate::found::Found;
 use crate::pass::steps_back;
 use crate::point::{KeptPoint, Point};
-use crate::points::leave_points;
+use crate::points::{Segment, leave_points};
 use crate::text_store::TextStore;
 use error_models::HeldText;
 use programs::Program;
@@ -24,12 +24,20 @@ const POINTS: usize = 60;
 /// A point takes little where there are no more qubits than these.
 const FEW_QUBITS: u32 = 256;
 
+/// A stretch of steps whose lines are found from its end.
+#[derive(Clone, Copy)]
+pub(crate) struct Stretch {
+    pub(crate) from: usize,
+    pub(crate) to: usize,
+}
+
 // Whether to go on back from a place: not at `from`, nor where the text is full or some target is known to be random, which
 // is asked once a step is gone over. Says at which place to ask again.
 #[inline(never)]
 fn goes_on<'s, 'a, A: Allocator + Copy>(
     lines: &TextStore<'_, 'a, A>,
     found: &Found<'s, A>,
+    all: Stretch,
     from: usize,
     to: usize,
     place: usize,
@@ -42,7 +50,9 @@ fn goes_on<'s, 'a, A: Allocator + Copy>(
     if place <= from {
         return false;
     }
-    if place < to && (lines.is_full(next, to - place, to - from) || found.is_random()) {
+    let steps = all.to.saturating_sub(place);
+    let most = all.to.saturating_sub(all.from);
+    if place < to && (lines.is_full(next, steps, most) || found.is_random()) {
         return false;
     }
     *ask = place.saturating_sub(lines.stride()).max(from);
@@ -50,10 +60,12 @@ fn goes_on<'s, 'a, A: Allocator + Copy>(
 }
 
 /// Goes back to `from`, over one step at least where there is one, until the text of the lines found is full, or some
-/// target is known to be random: then no text is written. A text that seems to be whole soon is full later.
-fn find_back<'s, 'p, 'a, A: Allocator + Copy, T: Tracker>(
+/// target is known to be random: then no text is written. A text that seems to be whole soon is full later: that of `all`, whose
+/// lines are found up to here.
+pub(crate) fn find_back<'s, 'p, 'a, A: Allocator + Copy, T: Tracker>(
     program: &Program<'a, A>,
     from: usize,
+    all: Stretch,
     at: &mut Point<'p, 'a, A, T>,
     found: &mut Found<'s, A>,
     lines: &mut TextStore<'_, 'a, A>,
@@ -83,7 +95,16 @@ fn find_back<'s, 'p, 'a, A: Allocator + Copy, T: Tracker>(
     let mut ask = to;
     let mut next = 0;
     while at.walk.place() > ask
-        || goes_on(lines, found, from, to, at.walk.place(), &mut ask, &mut next)
+        || goes_on(
+            lines,
+            found,
+            all,
+            from,
+            to,
+            at.walk.place(),
+            &mut ask,
+            &mut next,
+        )
     {
         steps_back(program, ask, at, found, lines)?;
     }
@@ -100,7 +121,7 @@ pub(crate) struct Parts<'p, 'a, A: Allocator + Copy> {
 
 /// Goes back over a stretch: finds lines until their text is full, and leaves points on the rest of the way.
 pub(crate) fn cut<'s, 'p, 'a, A: Allocator + Copy, T: Tracker>(
-    program: &Program<'a, A>,
+    program: &'p Program<'a, A>,
     from: usize,
     at: &mut Point<'p, 'a, A, T>,
     found: &mut Found<'s, A>,
@@ -124,7 +145,7 @@ pub(crate) fn cut<'s, 'p, 'a, A: Allocator + Copy, T: Tracker>(
     ensures store { lines.new.program.now ≡ lines.old.program.now }
 {
     let to = at.walk.place();
-    find_back(program, from, at, found, lines)?;
+    find_back(program, from, Stretch { from, to }, at, found, lines)?;
     let place = at.walk.place();
     let distance = if found.is_random() {
         usize::MAX
@@ -132,21 +153,25 @@ pub(crate) fn cut<'s, 'p, 'a, A: Allocator + Copy, T: Tracker>(
         distance_for(place - from, to - place, program.qubits())
     };
     found.keeps = true;
-    let points = leave_points(program, from, distance, at, found)?;
+    let Segment {
+        points,
+        turns: _,
+        start: _,
+    } = leave_points(program, false, from, distance, at, found)?;
     let end = lines.take_text();
     Ok(Parts { points, end })
 }
 
-// How far apart points are left on a way of this many steps, where the text of the steps behind them is full. The text
-// between two points is held beside that one, so it is shorter where more points take little.
-fn distance_for(way: usize, full: usize, qubits: u32) -> usize {
+/// How far apart points are left on a way of this many steps, where the text of the steps behind them is full. The text
+/// between two points is held beside that one, so it is shorter where more points take little.
+pub(crate) fn distance_for(way: usize, full: usize, qubits: u32) -> usize {
     let near = if qubits <= FEW_QUBITS { full / 4 } else { full };
     near.max(way / POINTS + 1)
 }
 
 // Goes to a point that was left, and back over the stretch before it.
 fn cut_from<'s, 'p, 'a, A: Allocator + Copy, T: Tracker>(
-    program: &Program<'a, A>,
+    program: &'p Program<'a, A>,
     from: usize,
     point: KeptPoint<'p, 'a, A>,
     at: &mut Point<'p, 'a, A, T>,
@@ -175,7 +200,7 @@ fn cut_from<'s, 'p, 'a, A: Allocator + Copy, T: Tracker>(
 /// Writes the text of what is before a cut, from the first of its points' parts to the last: from the last point on.
 /// What the tracker has is lost.
 pub(crate) fn write_parts<'s, 'p, 'a, A: Allocator + Copy, T: Tracker, W: Sink>(
-    program: &Program<'a, A>,
+    program: &'p Program<'a, A>,
     from: usize,
     points: &mut Vec<KeptPoint<'p, 'a, A>, A>,
     at: &mut Point<'p, 'a, A, T>,

@@ -11,13 +11,14 @@ ghost use Rattle.backward.specs.Places.{IsLowestRandom, NoneIsRandom};
 ghost use Rattle.trackers.specs.Tracked.{fresh};
 ghost use Rattle.backward.specs.private.Answered.{Answers, PushesAnswer};
 ghost use Rattle.backward.specs.private.Passes.{IsPassed};
-ghost use Rattle.backward.specs.private.Points.{AreParts};
+ghost use Rattle.backward.specs.private.Segments.{AreWhole};
 
 use crate::found::Found;
 use crate::places::random_target;
 use crate::point::Point;
-use crate::stretch::{Parts, cut, write_parts};
+use crate::segments::{push_kept, write_segments};
 use crate::text_store::TextStore;
+use crate::whole::{Whole, cut_whole};
 use arrayvec::ArrayVec;
 use error_models::{DetectorLines, MOST_LINES, push_observable};
 use programs::{Program, Walk};
@@ -104,24 +105,21 @@ fn push_analysis<'a, A: Allocator + Copy, T: Tracker + Drop, W: Sink>(
         walk: Walk::end(program),
         tracker,
     };
-    let mut parts = cut(program, 0, &mut at, &mut found, &mut lines)?;
-    push_parts(
-        program, &mut parts, &mut at, &mut found, &mut lines, out, sink,
-    )
+    let parts = cut_whole(program, &mut at, &mut found, &mut lines)?;
+    push_parts(program, parts, &mut at, &mut found, &mut lines, out, sink)
 }
 
 // The same, from the start, with what a first pass left: points, and the text of the end.
 fn push_parts<'s, 'p, 'a, A: Allocator + Copy, T: Tracker, W: Sink>(
-    program: &Program<'a, A>,
-    parts: &mut Parts<'p, 'a, A>,
+    program: &'p Program<'a, A>,
+    parts: Whole<'p, 'a, A>,
     at: &mut Point<'p, 'a, A, T>,
     found: &mut Found<'s, A>,
     lines: &mut TextStore<'_, 'a, A>,
     out: &mut Pieces,
     sink: &mut W,
 ) -> Result<Option<(u32, Place)>, AllocError>
-    requires parts { AreParts program.now 0 (length program.now.listing.steps) found.old.known
-        parts.old }
+    requires parts { AreWhole program.now (length program.now.listing.steps) found.old.known parts }
     requires passed { IsPassed program.now.listing 0 (T.tracked at.old.tracker) found.old }
     requires first { found.old.settled ≡ false }
     requires keeps { found.old.keeps ≡ true }
@@ -136,8 +134,15 @@ fn push_parts<'s, 'p, 'a, A: Allocator + Copy, T: Tracker, W: Sink>(
         None => {
             found.settled = true;
             lines.hold_parts();
-            write_parts(program, 0, &mut parts.points, at, found, lines, out, sink)?;
-            parts.end.push_to(out, sink);
+            let Whole {
+                mut segments,
+                cut,
+                turns,
+                end,
+            } = parts;
+            write_segments(program, cut, &mut segments, at, found, lines, out, sink)?;
+            push_kept(program, cut, turns, lines, out, sink)?;
+            end.push_to(out, sink);
             push_declarations(program, out, sink);
             Ok(None)
         }

@@ -44,11 +44,15 @@ pub record ArePoints {A : Type 0} (program : KeptProgram) (from cut : ℕ) (poin
   pub below : All (λ point. point.walk.place ≤ cut) points
   pub fall : AllPairs (λ early late. late.walk.place < early.walk.place) points
 
--- a point was left behind those that there were: it keeps the words of this one, at its place
-pub record IsLeft {A T : Type 0} (tracked : T → Tracked) (at : Point A T) (old new : List (KeptPoint A)) : Type 0 where
-  pub point : KeptPoint A
+-- a point keeps the words of another, at its place
+pub record IsKept {A T : Type 0} (tracked : T → Tracked) (at : Point A T) (point : KeptPoint A) : Type 0 where
   pub walk : point.walk ≡ at.walk
   pub words : Keeps (tracked at.tracker) point.lists
+
+-- such a point was left behind those that there were
+pub record IsLeft {A T : Type 0} (tracked : T → Tracked) (at : Point A T) (old new : List (KeptPoint A)) : Type 0 where
+  pub point : KeptPoint A
+  pub kept : IsKept tracked at point
   pub items : new ≡ old ++ point ∷ []
 
 -- the text of the end of a stretch, and points where it is cut and before that; `known` records are enough for them

@@ -1,10 +1,15 @@
 use Rattle.std.proofs.Common.{◌≡◌, ◌<◌, ◌≤◌, [], inl, inr, length, get_or, refl, ap, subst, sym, ◌∙◌, rules, arith}
-use Rattle.std.specs.Prelude.{All}
+use Rattle.std.specs.Prelude.{All, Bool, Option, None, Some, false, not, true}
+use Rattle.std.specs.Option.{is_some}
 use Rattle.backward.specs.private.Points.{ArePoints}
-use Rattle.backward.proofs.PointLemmas.{end_of_way, kept_on_way, left_behind, left_on_way, step_before}
+use Rattle.backward.proofs.PointLemmas.{kept_on_way, kept_way, left_behind, left_on_way, segment_of, step_before}
 use Rattle.backward.proofs.StepLemmas.{stays_as, stays_on}
 use Rattle.backward.proofs.points.leave_points.Goals as goal
-use Rattle.backward.proofs.points.leave_points.Goals.{then-place-next+in_ok-leave, else-place-next}
+use Rattle.backward.proofs.points.leave_points.Goals.{then-place-next+in_ok-leave, else-place-next, then-loop-at-test+else-place-from, else-loop-at-test}
+
+no_turns : {X : Type 0} (o : Option X) (b : Bool) → o ≡ None → is_some o ≡ not b → b ≡ false → ⊥
+no_turns None b e f g = let some : false ≡ true = f ∙ ap not g in cc
+no_turns (Some x) b e f g = cc
 
 pub loop-at-init : goal.loop-at-init
 loop-at-init g c =
@@ -15,8 +20,10 @@ loop-at-init g c =
       below = omega arith;
       passed = c.requires.passed;
       stays = stays_as refl refl refl;
-      points = inl (refl, (none, omega (arith, c.place-next.ensures)));
+      points = inl (refl, (none, omega (arith, c.place-end.ensures)));
       behind = λ k d lt. absurd (omega (arith, lt, ap length none));
+      kept = tt;
+      plain = λ e. refl;
     }
 
 pub loop-at-preserved : goal.loop-at-preserved
@@ -26,10 +33,10 @@ loop-at-preserved g c =
     let cut = c.args.at.now.walk.place in
     let l = c.loop-at in
     let place = l.at.walk.place in
-    let e = c.in_ok-back_without_lines.ensures in
-    let at = c.back_without_lines.new.at in
+    let e = c.in_ok-turns.ensures in
+    let at = c.back_over.new.at in
     let points = c.if-place-next.points.items in
-    let above : c.args.from < place = omega (arith, c.loop-at-test.true, c.place.ensures) in
+    let above : c.args.from < place = omega (arith, c.if-place-from.true, c.place.ensures) in
     let back : at.walk.place < place = e.back in
     let left : ArePoints program c.args.from cut points × All (λ p. place ≤ p.walk.place) points =
     elim c.if-place-next.branch [
@@ -47,16 +54,24 @@ loop-at-preserved g c =
           )
     ] in
     record {
-      program_is = e.program ∙ l.invariant.program_is;
-      above = omega (arith, e.to, above);
+      program_is = e.passed.program_is ∙ l.invariant.program_is;
+      above = e.passed.above;
       below = omega (arith, back, l.invariant.below);
-      passed = e.passed;
-      stays = stays_on c.args.found.now l.found c.back_without_lines.new.found l.invariant.stays e.stays;
+      passed = e.passed.passed;
+      stays = stays_on c.args.found.now l.found c.back_over.new.found l.invariant.stays e.passed.stays;
       points = inr (omega (arith, back, l.invariant.below), left.0);
       behind = step_before program at.walk.place place points back left.1;
+      kept = kept_way program cut at.walk.place place points c.in_ok-turns.turns l.invariant.below left.1 e.turns;
+      plain = e.plain;
     }
 
-pub returns-clause-points : goal.returns-clause-points
-returns-clause-points g c =
+pub returns-clause-segment : goal.returns-clause-segment
+returns-clause-segment g c =
     let l = c.loop-at in
-    end_of_way c.args.program.now c.args.from c.args.at.now.walk.place l.at.walk.place l.next l.points.items (omega (arith, c.loop-at-test.false, c.place.ensures, l.invariant.above)) l.invariant.points
+    let i = l.invariant in
+    let whole : l.turns ≡ None → l.at.walk.place ≡ c.args.from =
+    elim c.loop-at-test.branch [
+      | then-loop-at-test+else-place-from w ↦ λ e. omega (arith, w.if-place-from.false, w.place.ensures, i.above)
+      | else-loop-at-test w ↦ λ e. absurd (no_turns l.turns c.is_none.result e c.is_none.ensures w.loop-at-test.false)
+    ] in
+    segment_of c.args.program.now c.args.from c.args.at.now.walk.place l.at.walk.place l.next _ c.place-2.ensures i.above i.below i.points i.kept whole

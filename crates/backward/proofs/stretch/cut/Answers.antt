@@ -1,5 +1,6 @@
-use Rattle.std.proofs.Common.{[], length, refl, ap, subst, ◌∙◌, arith}
+use Rattle.std.proofs.Common.{[], length, refl, ap, subst, sym, ◌∙◌, arith}
 use Rattle.backward.specs.private.Passes.{IsPassed}
+use Rattle.backward.proofs.SegmentLemmas.{plain_points}
 use Rattle.backward.proofs.HeldLines.{holds_none, stretch_text}
 use Rattle.backward.proofs.stretch.cut.Goals as goal
 
@@ -11,7 +12,7 @@ leave_points-requires-clause-passed g c =
 pub returns-clause-passed : goal.returns-clause-passed
 returns-clause-passed g c =
     let left = c.in_ok-points.ensures in
-    subst (λ k. IsPassed c.args.program.now.listing k (g.T.Tracker.tracked c.leave_points.new.at.tracker) c.leave_points.new.found) left.place left.passed
+    subst (λ k. IsPassed c.args.program.now.listing k (g.T.Tracker.tracked c.leave_points.new.at.tracker) c.leave_points.new.found) (sym left.place ∙ left.segment.whole (left.plain refl)) left.passed
 
 pub returns-clause-settled : goal.returns-clause-settled
 returns-clause-settled g c = c.leave_points.ensures.stays.settled ∙ c.find_back.ensures.stays.settled
@@ -35,8 +36,13 @@ returns-clause-parts g c =
       above = found.from;
       below = found.back;
       back = found.some;
-      points = left.points;
+      points = plain_points program c.args.from _ c.in_ok-points.field-0 (left.plain refl) left.segment;
       text = c.take_text-end.ensures.text
           ∙ stretch_text program.listing c.find_back.new.lines.text c.find_back.new.at.walk.place c.args.at.now.walk.place (found.lines [] (holds_none c.args.lines.now.text c.requires.none)) (c.take_text-end.ensures.detectors ∙ ap (λ p. length p.listing.detectors) (c.find_back.ensures.store ∙ c.requires.store));
       enough = omega (arith, found.passed.lists.enough, left.stays.known refl);
     }
+
+pub returns-clause-place : goal.returns-clause-place
+returns-clause-place g c =
+    let left = c.in_ok-points.ensures in
+    sym left.place ∙ left.segment.whole (left.plain refl)

@@ -1,0 +1,49 @@
+-- The error lines of a turn of a REPEAT block, and those of the turns before it, which repeat them: the same lines, with targets
+-- that are some detectors earlier. (Gidney, Quantum 5, 497 (2021): the errors of a block's turns are found once. How lines are
+-- kept is this project's own.)
+use Rattle.std.specs.Prelude.{◌≡◌, ℕ, zero, suc, ◌*◌, ◌<◌, List, [], ◌∷◌, ◌++◌, All, length, reverse}
+use Rattle.std.specs.List.{flat_map}
+use Rattle.error_models.specs.ModelText.{line_text}
+use Rattle.programs.specs.Kept.{KeptProgram, kept_at}
+use Rattle.step_model.specs.ErrorModels.{ErrorLine}
+use Rattle.step_model.specs.Targets.{targets_of}
+use Rattle.backward.specs.private.MovedTargets.{moved_list}
+use Rattle.backward.specs.private.Stretches.{Gives, line_for}
+
+-- lines of a program's faults, in the order in which they were given
+pub record KeptLines : Type 0 where
+  pub program : KeptProgram
+  pub lines : List ErrorLine
+
+-- those of faults with these entries, which flip these targets, one each
+abbrev pub kept_lines : KeptProgram → List ℕ → List (List ℕ) → List ErrorLine
+kept_lines program (entry ∷ entries) (targets ∷ lists) = record { text = (kept_at program entry).text; targets = targets } ∷ kept_lines program entries lists
+kept_lines program entries lists = []
+
+-- there are such entries and targets
+pub record AreKeptLines (program : KeptProgram) (entries : List ℕ) (lists : List (List ℕ)) : Type 0 where
+  pub counted : length entries ≡ length lists
+  pub entered : All (λ entry. entry < length program.kept) entries
+  pub named : All (All (λ t. t < length (targets_of program.listing))) lists
+
+-- error lines with their targets moved to detectors that are `by` earlier; one that is left without targets goes away
+abbrev pub moved_error_lines : ℕ → ℕ → List ErrorLine → List ErrorLine
+moved_error_lines detectors by [] = []
+moved_error_lines detectors by (line ∷ lines) = line_for line.text (moved_list detectors by line.targets) ++ moved_error_lines detectors by lines
+
+-- the lines of some turns, the earliest first, from those of the turn behind them
+abbrev pub turn_lines : ℕ → ℕ → ℕ → List ErrorLine → List ErrorLine
+turn_lines detectors by zero lines = []
+turn_lines detectors by (suc turns) lines = moved_error_lines detectors (suc turns * by) lines ++ turn_lines detectors by turns lines
+
+-- the lines of the turns before one, from that which is `last` turns earlier to that behind which `first` are left, were given
+-- from the last to the first, as those of the turn itself were
+pub record GivesTurns (before after : List ErrorLine → Type 0) (detectors by first last : ℕ) (lines : List ErrorLine) : Type 0 where
+  pub more : List ErrorLine
+  pub gives : Gives before after more
+  pub turns : reverse more ++ turn_lines detectors by first (reverse lines) ≡ turn_lines detectors by last (reverse lines)
+
+-- the text of the lines of some turns before those that are kept
+abbrev pub turns_text : KeptLines → ℕ → ℕ → List ℕ
+turns_text kept by turns =
+    let detectors = length kept.program.listing.detectors in flat_map (line_text detectors) (turn_lines detectors by turns (reverse kept.lines))

@@ -1,0 +1,334 @@
+//! Turns of a block that repeat, on the way back over a stretch of steps. Where the words at a place are those of the same place one
+//! turn later, but for the numbers of detectors, the turns before it do the same again: they are gone back over at once, and their lines
+//! are those of the turn behind them.
+ghost use Rattle.std.specs.Prelude.{◌≡◌, [], ◌≤◌, ◌<◌, ◌+◌, ◌-◌, ◌*◌, true, false, length, reverse, IfOk, IfSome, OnOk};
+ghost use Rattle.backward.specs.private.Passes.{IsPassed, Stays, records_before};
+ghost use Rattle.backward.specs.private.Points.{IsPointOf};
+ghost use Rattle.backward.specs.private.Repeats.{AreStill};
+ghost use Rattle.backward.specs.private.Segments.{turns_end};
+ghost use Rattle.backward.specs.private.Stretches.{Gives, lines_between};
+ghost use Rattle.backward.specs.private.Turns.{AreGonePast, AreKept, ArePassed, IsKnown, IsPeriod};
+
+use crate::found::Found;
+use crate::line_store::LineStore;
+use crate::moved::{are_moved, detectors_moved, moved_lists, repeated_from};
+use crate::pass::steps_back;
+use crate::point::{KeptPoint, Point};
+use crate::points::kept_point;
+use crate::turn_lines::{TurnLines, give_turn};
+use programs::{Program, Walk};
+use std::alloc::{AllocError, Allocator};
+use trackers::Tracker;
+
+/// After how many steps it is asked whether there is room for more lines, at most.
+const STRIDE: usize = 16;
+
+/// After how many steps it is looked again for a turn, where there is none.
+const FAR: usize = 512;
+
+/// The words at a place of a turn that repeats the one after it.
+#[derive(Drop)]
+pub(crate) struct Period<'p, 'a, A: Allocator + Copy> {
+    pub(crate) point: KeptPoint<'p, 'a, A>,
+    /// The same place one turn later.
+    pub(crate) later: Walk<'p, 'a, A>,
+    /// By how many detectors those of a turn are earlier than those of the turn after it.
+    pub(crate) by: usize,
+    /// The first record from which on the lists of those before the place are as a turn later.
+    pub(crate) low: usize,
+    /// The first place to which turns may be gone back over.
+    pub(crate) end: usize,
+}
+
+/// The steps of turns that repeat the one behind them.
+#[derive(Drop)]
+pub(crate) struct KeptTurns<'p, 'a, A: Allocator + Copy> {
+    /// The lines of that turn.
+    pub(crate) lines: TurnLines<'p, 'a, A>,
+    /// The places before and behind the turns.
+    pub(crate) start: usize,
+    pub(crate) end: usize,
+    pub(crate) turns: usize,
+    /// By how many detectors those of a turn are earlier than those of the turn after it.
+    pub(crate) by: usize,
+}
+
+/// The place behind the turns that begin at one, where there are any.
+pub(crate) fn end_of<A: Allocator + Copy>(
+    start: usize,
+    turns: &Option<KeptTurns<'_, '_, A>>,
+) -> usize
+    ensures { result ≡ turns_end start turns.now }
+{
+    match turns {
+        Some(kept) => kept.end,
+        None => start,
+    }
+}
+
+/// Where a pass looks for turns that repeat.
+#[derive(Clone, Copy)]
+pub(crate) struct Looks {
+    /// The place at which to look next.
+    pub(crate) ask: usize,
+    /// After how many turns to look again, where one didn't repeat.
+    wait: usize,
+    /// How many steps turns have that are gone back over at once, at least.
+    least: usize,
+}
+
+impl Looks {
+    /// It is looked at a place first.
+    pub(crate) fn at(place: usize, least: usize) -> Self {
+        Looks {
+            ask: place,
+            wait: 1,
+            least,
+        }
+    }
+}
+
+// The place one turn before that of a walk, where there is one that isn't before `from`.
+fn turn_to<A: Allocator + Copy>(walk: &Walk<'_, '_, A>, from: usize) -> Option<usize>
+    ensures { IfSome result (λ to. (from ≤ to) × (to < walk.now.place)
+        × AreStill walk.now.program.listing to walk.now.place) }
+{
+    let earlier = walk.turn_before()?;
+    let to = earlier.place();
+    if to < from {
+        return None;
+    }
+    Some(to)
+}
+
+// What is known of a place whose turn may repeat the one after it, where it does: the words there are kept in lists.
+fn period_at<'s, 'p, 'a, A: Allocator + Copy>(
+    program: &Program<'a, A>,
+    from: usize,
+    later: KeptPoint<'p, 'a, A>,
+    point: KeptPoint<'p, 'a, A>,
+    found: &Found<'s, A>,
+) -> Option<Period<'p, 'a, A>>
+    requires later { IsPointOf program.now later }
+    requires point { IsPointOf program.now point }
+    requires earlier { point.walk.place < later.walk.place }
+    requires still { AreStill program.now.listing point.walk.place later.walk.place }
+    requires from { from ≤ point.walk.place }
+    requires known { IsKnown program.now.listing point.walk.place found.now }
+    ensures period { IfSome result (IsPeriod program.now found.now) }
+    ensures point { IfSome result (λ period. period.point.walk ≡ point.entry.walk) }
+    ensures later { IfSome result (λ period. period.later ≡ later.entry.walk) }
+    ensures end { IfSome result (λ period. (from ≤ period.end)
+        × (period.end ≤ point.entry.walk.place)) }
+{
+    program.well_formed();
+    let detectors = program.detector_count();
+    let end = point.walk.records();
+    let records = later.walk.records().saturating_sub(end);
+    if later.walk.records() > found.known || found.is_random() {
+        return None;
+    }
+    let by = detectors_moved(&found.lists, end, records, detectors);
+    if !are_moved(&point.lists, &later.lists, by, detectors) {
+        return None;
+    }
+    let place = point.walk.place();
+    let steps = later.walk.place() - place;
+    let most = (place - from) / steps;
+    let least = end.saturating_sub(most.saturating_mul(records));
+    let low = repeated_from(&found.lists, least, end, records, by, detectors);
+    let turns = if records == 0 {
+        most
+    } else {
+        (end - low) / records
+    };
+    let KeptPoint {
+        walk: later,
+        lists: _,
+    } = later;
+    Some(Period {
+        point,
+        later,
+        by,
+        low,
+        end: place.saturating_sub(turns.saturating_mul(steps)).max(from),
+    })
+}
+
+// Goes back over turns that repeat, to a place at most, and answers over how many.
+fn repeat_turns<'s, 'p, 'a, A: Allocator + Copy, T: Tracker>(
+    program: &Program<'a, A>,
+    to: usize,
+    period: &Period<'p, 'a, A>,
+    at: &mut Point<'p, 'a, A, T>,
+    found: &mut Found<'s, A>,
+) -> Result<usize, AllocError>
+    requires program { at.old.walk.program ≡ program.now }
+    requires to { to ≤ at.old.walk.place }
+    requires here { period.now.point.walk.place ≡ at.old.walk.place }
+    requires passed { IsPassed program.now.listing at.old.walk.place (T.tracked at.old.tracker)
+        found.old }
+    requires period { IsPeriod program.now found.old period.now }
+    ensures passed { ArePassed T.tracked program.now to at.old at.new found.old found.new result }
+    ensures turns { IfOk result (λ turns. 0 < turns → AreGonePast program.now period.now turns
+        at.new.walk.place) }
+    ensures none { IfOk result (λ turns. turns ≡ 0 → at.new.walk.place ≡ at.old.walk.place) }
+{
+    program.well_formed();
+    if to > period.point.walk.place() {
+        return Ok(0);
+    }
+    let mut walk = period.point.walk.copy();
+    let turns = walk.pass_turns_back(&period.later, to);
+    if turns == 0 || walk.records() < period.low || at.walk.place() <= walk.place() {
+        return Ok(0);
+    }
+    let Some(by) = turns.checked_mul(period.by) else {
+        return Ok(0);
+    };
+    let lists = moved_lists(
+        *found.alloc,
+        &period.point.lists,
+        by,
+        program.detector_count(),
+    )?;
+    at.tracker.restore(&lists)?;
+    found.left = walk.collapses();
+    at.walk = walk;
+    Ok(turns)
+}
+
+// Goes back over the turns before a place that repeat the turn behind it, whose words and lines these are, and keeps them. Where none
+// does, it is looked again later, each time after twice as many turns.
+fn repeats<'s, 'p, 'a, A: Allocator + Copy, T: Tracker>(
+    program: &Program<'a, A>,
+    from: usize,
+    later: KeptPoint<'p, 'a, A>,
+    lines: TurnLines<'p, 'a, A>,
+    at: &mut Point<'p, 'a, A, T>,
+    found: &mut Found<'s, A>,
+    looks: &mut Looks,
+) -> Result<Option<KeptTurns<'p, 'a, A>>, AllocError>
+    requires program { at.old.walk.program ≡ program.now }
+    requires from { from ≤ at.old.walk.place }
+    requires passed { IsPassed program.now.listing at.old.walk.place (T.tracked at.old.tracker)
+        found.old }
+    requires later { IsPointOf program.now later }
+    requires earlier { at.old.walk.place < later.walk.place }
+    requires still { AreStill program.now.listing at.old.walk.place later.walk.place }
+    requires store { lines.program ≡ program.now }
+    requires lines { lines.lines
+        ≡ reverse (lines_between program.now.listing at.old.walk.place later.walk.place) }
+    ensures passed { ArePassed T.tracked program.now from at.old at.new found.old found.new result }
+    ensures below { OnOk result (at.new.walk.place ≤ at.old.walk.place) }
+    ensures turns { IfOk result (λ kept. IfSome kept (AreKept program.now at.new.walk.place
+        later.entry.walk.place)) }
+    ensures end { IfOk result (λ kept. turns_end at.new.walk.place kept ≡ at.old.walk.place) }
+{
+    let place = at.walk.place();
+    let steps = later.walk.place() - place;
+    let point = kept_point(*found.alloc, at)?;
+    let Some(period) = period_at(program, from, later, point, found) else {
+        looks.ask = place.saturating_sub(steps.saturating_mul(looks.wait));
+        looks.wait = looks.wait.saturating_mul(2);
+        return Ok(None);
+    };
+    looks.wait = 1;
+    if place.saturating_sub(period.end) < looks.least {
+        looks.ask = period.end;
+        return Ok(None);
+    }
+    let turns = repeat_turns(program, period.end, &period, at, found)?;
+    looks.ask = at.walk.place();
+    if turns == 0 {
+        looks.ask = place.saturating_sub(steps);
+        return Ok(None);
+    }
+    Ok(Some(KeptTurns {
+        lines,
+        start: at.walk.place(),
+        end: place,
+        turns,
+        by: period.by,
+    }))
+}
+
+// Goes back to a place, and keeps the lines of the steps gone over; not so far where these have no room.
+fn find_turn<'s, 'p, 'a, A: Allocator + Copy, T: Tracker>(
+    program: &Program<'a, A>,
+    to: usize,
+    at: &mut Point<'p, 'a, A, T>,
+    found: &mut Found<'s, A>,
+    lines: &mut TurnLines<'_, 'a, A>,
+) -> Result<(), AllocError>
+    requires program { at.old.walk.program ≡ program.now }
+    requires to { to ≤ at.old.walk.place }
+    requires passed { IsPassed program.now.listing at.old.walk.place (T.tracked at.old.tracker)
+        found.old }
+    requires store { lines.old.program ≡ program.now }
+    requires none { lines.old.lines ≡ [] }
+    ensures program { at.new.walk.program ≡ at.old.walk.program }
+    ensures above { to ≤ at.new.walk.place }
+    ensures below { at.new.walk.place ≤ at.old.walk.place }
+    ensures passed { OnOk result
+        (IsPassed program.now.listing at.new.walk.place (T.tracked at.new.tracker) found.new) }
+    ensures stays { Stays found.old found.new }
+    ensures lines { OnOk result
+        (lines.new.lines
+        ≡ reverse (lines_between program.now.listing at.new.walk.place at.old.walk.place)) }
+    ensures store { lines.new.program ≡ lines.old.program }
+{
+    while at.walk.place() > to && lines.has_room() {
+        let next = at.walk.place().saturating_sub(STRIDE).max(to);
+        steps_back(program, next, at, found, lines)?;
+    }
+    Ok(())
+}
+
+/// Looks for a turn before a place, to `from` at most, that isn't longer than so many steps: goes back over it, gives its lines, and then
+/// goes back over the turns before it that repeat it, which are kept.
+#[inline(never)]
+pub(crate) fn pass_turns<'s, 'p, 'a, A: Allocator + Copy, T: Tracker, L: LineStore>(
+    program: &'p Program<'a, A>,
+    from: usize,
+    longest: usize,
+    at: &mut Point<'p, 'a, A, T>,
+    found: &mut Found<'s, A>,
+    lines: &mut L,
+    looks: &mut Looks,
+) -> Result<Option<KeptTurns<'p, 'a, A>>, AllocError>
+    requires program { at.old.walk.program ≡ program.now }
+    requires from { from ≤ at.old.walk.place }
+    requires passed { IsPassed program.now.listing at.old.walk.place (T.tracked at.old.tracker)
+        found.old }
+    requires store { L.program lines.old ≡ program.now }
+    ensures passed { ArePassed T.tracked program.now from at.old at.new found.old found.new result }
+    ensures below { OnOk result (at.new.walk.place ≤ at.old.walk.place) }
+    ensures turns { IfOk result (λ kept. IfSome kept (AreKept program.now at.new.walk.place
+        at.old.walk.place)) }
+    ensures lines { IfOk result (λ kept. Gives (L.holds lines.old) (L.holds lines.new)
+        (reverse
+        (lines_between program.now.listing (turns_end at.new.walk.place kept) at.old.walk.place))) }
+    ensures store { L.program lines.new ≡ L.program lines.old }
+{
+    let Some(to) = turn_to(&at.walk, from) else {
+        looks.ask = at.walk.place().saturating_sub(FAR);
+        return Ok(None);
+    };
+    if at.walk.place() - to > longest {
+        looks.ask = to;
+        return Ok(None);
+    }
+    let later = kept_point(*found.alloc, at)?;
+    let mut turn = TurnLines::new(*found.alloc, program);
+    find_turn(program, to, at, found, &mut turn)?;
+    let mut room = Vec::new(*found.alloc);
+    give_turn(&turn, 0, &mut room, lines)?;
+    let place = at.walk.place();
+    if place > to {
+        looks.ask = place.saturating_sub(FAR);
+        return Ok(None);
+    }
+    let kept = repeats(program, from, later, turn, at, found, looks)?;
+    Ok(kept)
+}
