@@ -18,7 +18,8 @@ use Rattle.dem_text.specs.KeptTexts.{IsKeptOf, KeptParts, picked}
 use Rattle.dem_text.specs.Meanings.{error_line, is_error, meaning_of}
 use Rattle.dem_text.specs.Models.{first_beyond, model_in, placed_lines}
 use Rattle.dem_text.specs.Shifts.{Placed}
-use Rattle.dem_text.specs.Sums.{is_among, lines_named, symptom_of, symptom_of_numbers}
+use Rattle.dem_text.specs.NamedLines.{is_among, lines_named, symptom_of_numbers}
+use Rattle.dem_text.specs.Sums.{symptom_of}
 use Rattle.dem_text.specs.Texts.{Item, items_in, models}
 use Rattle.dem_text.specs.Trees.{Tree}
 use Rattle.dem_text.specs.Verdicts.{Instruction}

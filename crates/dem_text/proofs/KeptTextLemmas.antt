@@ -9,7 +9,7 @@ use Rattle.step_model.proofs.EndsLemmas.{HandsOut-nil, HandsOut-trans}
 use Rattle.stim_lexer.specs.Lines.{lines_of}
 use Rattle.dem_text.specs.declared.counts.LineCounts.{LineCounts}
 use Rattle.dem_text.specs.KeptTexts.{HasKept, picked}
-use Rattle.dem_text.specs.Sums.{is_among}
+use Rattle.dem_text.specs.NamedLines.{is_among}
 use Rattle.dem_text.specs.private.Leading.{AreErrorLines}
 use Rattle.dem_text.specs.private.Taking.{AreSingle, AscendFrom, IsGathered, KeepsLines, ReadsOnto, joined}
 use Rattle.dem_text.proofs.TakingLemmas.{lines-joined}

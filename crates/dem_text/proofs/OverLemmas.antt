@@ -6,7 +6,8 @@ use Rattle.step_model.specs.ErrorModels.{ErrorModel}
 use Rattle.dem_text.specs.KeptTexts.{picked}
 use Rattle.dem_text.specs.Meanings.{detector_count, error_lines, is_error, meaning_of, observable_count}
 use Rattle.dem_text.specs.Shifts.{Placed}
-use Rattle.dem_text.specs.Sums.{is_among, symptom_of}
+use Rattle.dem_text.specs.NamedLines.{is_among}
+use Rattle.dem_text.specs.Sums.{symptom_of}
 use Rattle.dem_text.specs.private.Chains.{placed}
 use Rattle.dem_text.specs.private.Leading.{errors_from}
 use Rattle.dem_text.specs.private.Numbered.{numbers_of}

@@ -12,7 +12,7 @@ use Rattle.dem_text.specs.declared.counts.Extent.{Extent}
 use Rattle.dem_text.specs.declared.counts.LineCounts.{LineCounts}
 use Rattle.dem_text.specs.declared.operation.Operation.TheVariants.{PauliError}
 use Rattle.dem_text.specs.KeptTexts.{picked}
-use Rattle.dem_text.specs.Sums.{is_among}
+use Rattle.dem_text.specs.NamedLines.{is_among}
 use Rattle.dem_text.specs.private.Chains.{counted_with}
 use Rattle.dem_text.specs.private.LinesRead.{BeginsWithError, IsErrorLine}
 use Rattle.dem_text.specs.private.Taking.{AreSingle, AscendFrom, HasTaken, IsLater, TakesLines, is_next, joined, later_after}

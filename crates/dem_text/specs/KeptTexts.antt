@@ -8,7 +8,7 @@ use Rattle.dem_text.specs.declared.counts.LineCounts.{LineCounts}
 use Rattle.dem_text.specs.private.Chains.{placed}
 use Rattle.dem_text.specs.private.Leading.{AreErrorLines, errors_from}
 use Rattle.dem_text.specs.private.Summed.{AreCounts}
-use Rattle.dem_text.specs.Sums.{is_among}
+use Rattle.dem_text.specs.NamedLines.{is_among}
 
 -- a text, error lines that are named, and the counts of all error lines that the text began with
 pub record KeptParts : Type 0 where

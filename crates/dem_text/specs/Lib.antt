@@ -2,6 +2,7 @@ pub mod Shifts
 pub mod Meanings
 pub mod Models
 pub mod KeptTexts
+pub mod NamedLines
 pub mod Sums
 pub mod private
 pub mod Targets

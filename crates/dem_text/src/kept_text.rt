@@ -6,7 +6,7 @@ ghost use Rattle.step_model.specs.ErrorModels.{ErrorModel};
 ghost use Rattle.step_model.specs.Faults.{memory_fault, read_fault};
 ghost use Rattle.dem_text.specs.KeptTexts.{HasKept, IsKeptOf};
 ghost use Rattle.dem_text.specs.Models.{model_in};
-ghost use Rattle.dem_text.specs.Sums.{symptom_of_numbers};
+ghost use Rattle.dem_text.specs.NamedLines.{symptom_of_numbers};
 ghost use Rattle.stim_lexer.specs.Lines.{lines_of};
 ghost use Rattle.dem_text.specs.private.Summed.{HasTurned};
 ghost use Rattle.dem_text.specs.private.Taking.{ReadsOnto};

@@ -1,7 +1,7 @@
 ghost use Rattle.std.specs.Prelude.{◌≡◌, ◌==◌, ◌||◌, ◌+◌, ◌<◌, ℕ, false, length, nat_lt, slice_index_or, IfOk};
 ghost use Rattle.std.specs.List.{list_all};
 ghost use Rattle.stim_lexer.specs.Lines.{lines_of};
-ghost use Rattle.dem_text.specs.Sums.{is_among};
+ghost use Rattle.dem_text.specs.NamedLines.{is_among};
 ghost use Rattle.dem_text.specs.private.Leading.{AreErrorLines};
 ghost use Rattle.dem_text.specs.private.Summed.{turned_lines};
 

@@ -10,7 +10,8 @@ use Rattle.step_model.specs.declared.fault.Cause.TheVariants.{FaultNumber}
 use Rattle.step_model.specs.ErrorModels.{ErrorModel}
 use Rattle.step_model.specs.Faults.{without_line, ◌>>=◌}
 use Rattle.dem_text.specs.Models.{model_in}
-use Rattle.dem_text.specs.Sums.{lines_named, symptom_of, symptom_of_numbers}
+use Rattle.dem_text.specs.NamedLines.{lines_named, symptom_of_numbers}
+use Rattle.dem_text.specs.Sums.{symptom_of}
 use Rattle.forward_sim.specs.Listed.{IsListOf, IsNoList}
 use Rattle.frames.specs.Lines.{line_of}
 use Rattle.engine.specs.Output.{Output, done, model_prediction, prediction_output}

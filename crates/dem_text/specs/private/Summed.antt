@@ -11,7 +11,7 @@ use Rattle.dem_text.specs.Meanings.{detector_count, detectors_to, is_error, obse
 use Rattle.dem_text.specs.private.Numbered.{numbers_of}
 use Rattle.dem_text.specs.Models.{first_beyond, placed_lines}
 use Rattle.dem_text.specs.Shifts.{Placed}
-use Rattle.dem_text.specs.Sums.{is_among}
+use Rattle.dem_text.specs.NamedLines.{is_among}
 use Rattle.dem_text.specs.private.Standing.{read_targets}
 use Rattle.dem_text.specs.private.Turned.{turned}
 

@@ -1,5 +1,5 @@
 use Rattle.std.proofs.Common.{◌≡◌, ◌+◌, ◌<◌, ℕ, false, get_or, take, length}
-use Rattle.dem_text.specs.Sums.{is_among}
+use Rattle.dem_text.specs.NamedLines.{is_among}
 use Rattle.dem_text.proofs.named_lines.named_from.Given as goal
 
 abbrev pub invariant-loop-number : goal.invariant-loop-number
