@@ -71,7 +71,7 @@ pub(crate) fn end_of<A: Allocator + Copy>(
 pub(crate) struct Looks {
     /// The place at which to look next.
     pub(crate) ask: usize,
-    /// After how many turns to look again, where one didn't repeat.
+    /// After how many turns to look again, where one didn't repeat, or too few did.
     wait: usize,
     /// How many steps turns have that are gone back over at once, at least.
     least: usize,
@@ -85,6 +85,12 @@ impl Looks {
             wait: 1,
             least,
         }
+    }
+
+    // It is looked again so many turns before a place, and later after twice as many.
+    fn look_again(&mut self, place: usize, steps: usize) {
+        self.ask = place.saturating_sub(steps.saturating_mul(self.wait));
+        self.wait = self.wait.saturating_mul(2);
     }
 }
 
@@ -229,15 +235,14 @@ fn repeats<'s, 'p, 'a, A: Allocator + Copy, T: Tracker>(
     let steps = later.walk.place() - place;
     let point = kept_point(*found.alloc, at)?;
     let Some(period) = period_at(program, from, later, point, found) else {
-        looks.ask = place.saturating_sub(steps.saturating_mul(looks.wait));
-        looks.wait = looks.wait.saturating_mul(2);
+        looks.look_again(place, steps);
         return Ok(None);
     };
-    looks.wait = 1;
     if place.saturating_sub(period.end) < looks.least {
-        looks.ask = period.end;
+        looks.look_again(period.end, steps);
         return Ok(None);
     }
+    looks.wait = 1;
     let turns = repeat_turns(program, period.end, &period, at, found)?;
     looks.ask = at.walk.place();
     if turns == 0 {
