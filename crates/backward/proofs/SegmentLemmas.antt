@@ -21,22 +21,6 @@ module _ {A : Type 0} (program : KeptProgram) where
   segments_push cut place [] segment here one = (subst (λ k. IsSegment program 0 k segment) (sym here) one, refl)
   segments_push cut place (s ∷ segments) segment (first, rest) one = (first, segments_push s.start place segments segment rest one)
 
-  -- the last part is taken
-  pub record IsTaken (start cut : ℕ) (rest : List (Segment A)) (segment : Segment A) : Type 0 where
-    pub place : ℕ
-    pub segments : AreSegments program place cut rest
-    pub part : IsSegment program 0 place segment
-    pub start_is : segment.start ≡ start
-    pub within : place ≤ cut
-
-  pub taken : (start cut : ℕ) (rest : List (Segment A)) (segment : Segment A) → AreSegments program start cut (rest ++ segment ∷ []) → IsTaken start cut rest segment
-  taken start cut [] segment h = record { place = cut; segments = refl; part = h.0; start_is = h.1; within = omega arith }
-  taken start cut (s ∷ rest) segment h =
-      let later = taken start s.start rest segment h.1 in
-      let first = h.0.below in
-      let inner = later.within in
-      record { place = later.place; segments = (h.0, later.segments); part = later.part; start_is = later.start_is; within = omega (arith, first, inner) }
-
   -- points lead from where they begin back to where they end
   pub points_back : (from cut : ℕ) (points : List (KeptPoint A)) → ArePoints program from cut points → from ≤ cut
   points_back from cut [] h = let e = h.first in omega (arith, e)
@@ -49,6 +33,27 @@ module _ {A : Type 0} (program : KeptProgram) where
   pub turns_on : (start : ℕ) (o : Option (KeptTurns A)) → AreTurnsAt program start o → start ≤ turns_end start o
   turns_on start None h = omega arith
   turns_on start (Some kept) h = let before = h.0.before in let is = h.1 in omega (arith, before, is)
+
+  -- the last part is taken
+  pub record IsTaken (start cut : ℕ) (rest : List (Segment A)) (segment : Segment A) : Type 0 where
+    pub place : ℕ
+    pub segments : AreSegments program place cut rest
+    pub part : IsSegment program 0 place segment
+    pub start_is : segment.start ≡ start
+    pub turned : start ≤ turns_end segment.start segment.turns
+    pub back : turns_end segment.start segment.turns ≤ place
+    pub within : place ≤ cut
+
+  pub taken : (start cut : ℕ) (rest : List (Segment A)) (segment : Segment A) → AreSegments program start cut (rest ++ segment ∷ []) → IsTaken start cut rest segment
+  taken start cut [] segment h =
+      let on = turns_on segment.start segment.turns h.0.turns in
+      let is = h.1 in
+      record { place = cut; segments = refl; part = h.0; start_is = is; turned = omega (arith, on, is); back = points_back (turns_end segment.start segment.turns) cut segment.points.items h.0.points; within = omega arith }
+  taken start cut (s ∷ rest) segment h =
+      let later = taken start s.start rest segment h.1 in
+      let first = h.0.below in
+      let inner = later.within in
+      record { place = later.place; segments = (h.0, later.segments); part = later.part; start_is = later.start_is; turned = later.turned; back = later.back; within = omega (arith, first, inner) }
 
 -- where there are none, they end where they begin
 pub end_of_none : {A : Type 0} (start : ℕ) (o : Option (KeptTurns A)) → is_some o ≡ false → turns_end start o ≡ start

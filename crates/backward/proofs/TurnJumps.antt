@@ -37,16 +37,16 @@ fault_alike program records faults f e =
     }
 
 module _ {A : Type 0} (program : KeptProgram) (found : Found A) (period : Period A) (fits : IsWellFormed program.listing) (h : IsPeriod program found period) (from turns faults : ℕ)
-    (back : period.point.walk.place ≡ from + turns * (period.later.place - period.point.walk.place))
-    (repeat : Repeat program.listing.steps from period.point.walk.place (period.later.place - period.point.walk.place) (records_before program.listing period.later.place - records_before program.listing period.point.walk.place) faults)
+    (back : period.point.walk.place ≡ from + turns * (period.later.walk.place - period.point.walk.place))
+    (repeat : Repeat program.listing.steps from period.point.walk.place (period.later.walk.place - period.point.walk.place) (records_before program.listing period.later.walk.place - records_before program.listing period.point.walk.place) faults)
     (low : period.low ≤ records_before program.listing from) where
   abbrev to : ℕ
   to = period.point.walk.place
 
   abbrev steps : ℕ
-  steps = period.later.place - period.point.walk.place
+  steps = period.later.walk.place - period.point.walk.place
 
-  later_is : period.later.place ≡ to + steps
+  later_is : period.later.walk.place ≡ to + steps
   later_is = let less = h.earlier in omega (arith, less)
 
   knows : Knows program.listing found.settled found.lists found.known from to steps faults period.by
@@ -64,8 +64,8 @@ module _ {A : Type 0} (program : KeptProgram) (found : Found A) (period : Period
         moved = subst (AreMoved program.listing period.by to) later_is h.moved;
       }
 
-  pub lines_passed : RepeatFaults program.listing from to (records_before program.listing period.later.place - records_before program.listing to) faults
-      → lines_between program.listing from to ≡ turn_lines (length program.listing.detectors) period.by turns (lines_between program.listing to period.later.place)
+  pub lines_passed : RepeatFaults program.listing from to (records_before program.listing period.later.walk.place - records_before program.listing to) faults
+      → lines_between program.listing from to ≡ turn_lines (length program.listing.detectors) period.by turns (lines_between program.listing to period.later.walk.place)
   lines_passed alike =
       lines_turned program.listing found.settled found.lists found.known from to steps faults period.by knows each turns (sym back)
       ∙ ap (λ k. turn_lines (length program.listing.detectors) period.by turns (lines_between program.listing to k)) (sym later_is)
@@ -103,16 +103,16 @@ pub record Jumped {A : Type 0} (program : KeptProgram) (found : Found A) (period
   pub passed : (u : Tracked) (left : ℕ) → u ≡ restored lists t → left ≡ collapse_count (take new.place new.program.listing.steps) → IsPassed program.listing new.place u (record found { left = left })
   pub below : new.place ≤ period.point.walk.place
   pub lines : lines_between program.listing new.place period.point.walk.place
-      ≡ turn_lines (length program.listing.detectors) period.by turns (lines_between program.listing period.point.walk.place period.later.place)
+      ≡ turn_lines (length program.listing.detectors) period.by turns (lines_between program.listing period.point.walk.place period.later.walk.place)
 
 pub jumped : {A : Type 0} (program : KeptProgram) (found : Found A) (period : Period A) (walk new : Walked) (turns by place : ℕ) (t : Tracked) (lists : List (List ℕ)) (detectors records : ℕ) → IsWellFormed program.listing → IsPeriod program found period
-    → walk ≡ period.point.walk → new.program ≡ walk.program → walk.place ≡ new.place + turns * (period.later.place - walk.place)
-    → Repeat walk.program.listing.steps new.place walk.place (period.later.place - walk.place)
-    (length (records_made (take period.later.place walk.program.listing.steps)) - length (records_made (take walk.place walk.program.listing.steps)))
-    (length (faults_named (take period.later.place walk.program.listing.steps)) - length (faults_named (take walk.place walk.program.listing.steps)))
+    → walk ≡ period.point.walk → new.program ≡ walk.program → walk.place ≡ new.place + turns * (period.later.walk.place - walk.place)
+    → Repeat walk.program.listing.steps new.place walk.place (period.later.walk.place - walk.place)
+    (length (records_made (take period.later.walk.place walk.program.listing.steps)) - length (records_made (take walk.place walk.program.listing.steps)))
+    (length (faults_named (take period.later.walk.place walk.program.listing.steps)) - length (faults_named (take walk.place walk.program.listing.steps)))
     → RepeatFaults walk.program.listing new.place walk.place
-    (length (records_made (take period.later.place walk.program.listing.steps)) - length (records_made (take walk.place walk.program.listing.steps)))
-    (length (faults_named (take period.later.place walk.program.listing.steps)) - length (faults_named (take walk.place walk.program.listing.steps)))
+    (length (records_made (take period.later.walk.place walk.program.listing.steps)) - length (records_made (take walk.place walk.program.listing.steps)))
+    (length (faults_named (take period.later.walk.place walk.program.listing.steps)) - length (faults_named (take walk.place walk.program.listing.steps)))
     → records ≡ length (records_made (take new.place new.program.listing.steps)) → period.low ≤ records → by ≡ turns * period.by → lists ≡ moved_lists detectors by period.point.lists → detectors ≡ length program.listing.detectors
     → t ≡ tracked_before program.listing (drop place program.listing.steps) → Jumped program found period new turns t lists
 jumped {A} program found period walk new turns by place t lists detectors records fits h walk_is new_is back repeat alike records_are low by_is lists_are detectors_are words =
@@ -127,29 +127,29 @@ jumped {A} program found period walk new turns by place t lists detectors record
     same : new.program ≡ program
     same = new_is ∙ (ap (λ (w : Walked). w.program) walk_is ∙ h.point.program_is)
 
-    here : period.point.walk.place ≡ new.place + turns * (period.later.place - period.point.walk.place)
-    here = subst (λ (w : Walked). w.place ≡ new.place + turns * (period.later.place - w.place)) walk_is back
+    here : period.point.walk.place ≡ new.place + turns * (period.later.walk.place - period.point.walk.place)
+    here = subst (λ (w : Walked). w.place ≡ new.place + turns * (period.later.walk.place - w.place)) walk_is back
 
     faults : ℕ
-    faults = length (faults_named (take period.later.place program.listing.steps)) - length (faults_named (take period.point.walk.place program.listing.steps))
+    faults = length (faults_named (take period.later.walk.place program.listing.steps)) - length (faults_named (take period.point.walk.place program.listing.steps))
 
-    there : Repeat program.listing.steps new.place period.point.walk.place (period.later.place - period.point.walk.place) (records_before program.listing period.later.place - records_before program.listing period.point.walk.place) faults
+    there : Repeat program.listing.steps new.place period.point.walk.place (period.later.walk.place - period.point.walk.place) (records_before program.listing period.later.walk.place - records_before program.listing period.point.walk.place) faults
     there =
-        subst (λ (p : KeptProgram). Repeat p.listing.steps new.place period.point.walk.place (period.later.place - period.point.walk.place)
-        (length (records_made (take period.later.place p.listing.steps)) - length (records_made (take period.point.walk.place p.listing.steps)))
-        (length (faults_named (take period.later.place p.listing.steps)) - length (faults_named (take period.point.walk.place p.listing.steps)))) h.point.program_is
-        (subst (λ (w : Walked). Repeat w.program.listing.steps new.place w.place (period.later.place - w.place)
-        (length (records_made (take period.later.place w.program.listing.steps)) - length (records_made (take w.place w.program.listing.steps)))
-        (length (faults_named (take period.later.place w.program.listing.steps)) - length (faults_named (take w.place w.program.listing.steps)))) walk_is repeat)
+        subst (λ (p : KeptProgram). Repeat p.listing.steps new.place period.point.walk.place (period.later.walk.place - period.point.walk.place)
+        (length (records_made (take period.later.walk.place p.listing.steps)) - length (records_made (take period.point.walk.place p.listing.steps)))
+        (length (faults_named (take period.later.walk.place p.listing.steps)) - length (faults_named (take period.point.walk.place p.listing.steps)))) h.point.program_is
+        (subst (λ (w : Walked). Repeat w.program.listing.steps new.place w.place (period.later.walk.place - w.place)
+        (length (records_made (take period.later.walk.place w.program.listing.steps)) - length (records_made (take w.place w.program.listing.steps)))
+        (length (faults_named (take period.later.walk.place w.program.listing.steps)) - length (faults_named (take w.place w.program.listing.steps)))) walk_is repeat)
 
-    faults_there : RepeatFaults program.listing new.place period.point.walk.place (records_before program.listing period.later.place - records_before program.listing period.point.walk.place) faults
+    faults_there : RepeatFaults program.listing new.place period.point.walk.place (records_before program.listing period.later.walk.place - records_before program.listing period.point.walk.place) faults
     faults_there =
         subst (λ (p : KeptProgram). RepeatFaults p.listing new.place period.point.walk.place
-        (length (records_made (take period.later.place p.listing.steps)) - length (records_made (take period.point.walk.place p.listing.steps)))
-        (length (faults_named (take period.later.place p.listing.steps)) - length (faults_named (take period.point.walk.place p.listing.steps)))) h.point.program_is
+        (length (records_made (take period.later.walk.place p.listing.steps)) - length (records_made (take period.point.walk.place p.listing.steps)))
+        (length (faults_named (take period.later.walk.place p.listing.steps)) - length (faults_named (take period.point.walk.place p.listing.steps)))) h.point.program_is
         (subst (λ (w : Walked). RepeatFaults w.program.listing new.place w.place
-        (length (records_made (take period.later.place w.program.listing.steps)) - length (records_made (take w.place w.program.listing.steps)))
-        (length (faults_named (take period.later.place w.program.listing.steps)) - length (faults_named (take w.place w.program.listing.steps)))) walk_is alike)
+        (length (records_made (take period.later.walk.place w.program.listing.steps)) - length (records_made (take w.place w.program.listing.steps)))
+        (length (faults_named (take period.later.walk.place w.program.listing.steps)) - length (faults_named (take w.place w.program.listing.steps)))) walk_is alike)
 
     enough : period.low ≤ records_before program.listing new.place
     enough = let e = ap (λ (p : KeptProgram). length (records_made (take new.place p.listing.steps))) same in omega (arith, records_are, low, e)

@@ -12,6 +12,7 @@ mod pass;
 mod places;
 mod point;
 mod points;
+mod random;
 mod segments;
 mod stretch;
 mod text_store;
@@ -21,5 +22,6 @@ mod whole;
 mod writing;
 
 pub use analysis::{Analysed, analyse};
+pub use random::first_random;
 pub use trackers::{DenseWords, QubitSets, Tracker};
 pub use writing::{write_analysis, write_in_parts};

@@ -1,8 +1,8 @@
 //! Going back over the steps of a program, one at a time, or over a run of faults at once.
-ghost use Rattle.std.specs.Prelude.{◌≡◌, ◌<◌, ◌≤◌, ◌+◌, reverse, OnOk};
+ghost use Rattle.std.specs.Prelude.{◌<◌, ◌+◌};
 ghost use Rattle.programs.specs.Listed.{listed};
 ghost use Rattle.programs.specs.Named.{IsStepOf};
-ghost use Rattle.backward.specs.private.Passes.{IsFeedbackAt, IsPassed, Stays};
+ghost use Rattle.backward.specs.private.Passes.{IsFeedbackAt, IsPassed};
 ghost use Rattle.backward.specs.private.Steps.{AreGoneOver, IsUndone, StandsAt, StandsBefore};
 
 use crate::collapse::collapse;

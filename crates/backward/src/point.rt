@@ -11,8 +11,16 @@ pub(crate) struct Point<'p, 'a, A: Allocator + Copy, T> {
 }
 
 /// A point from which a pass starts later: a walk, and the words at its place as lists of targets.
-#[derive(Drop)]
 pub(crate) struct KeptPoint<'p, 'a, A: Allocator + Copy> {
     pub(crate) walk: Walk<'p, 'a, A>,
     pub(crate) lists: FlatLists<u32, A>,
+}
+
+// Written out, so that it is a call in the proof of each function that owns one.
+impl<A: Allocator + Copy> Drop for KeptPoint<'_, '_, A> {
+    fn drop(self) {
+        let KeptPoint { walk, lists } = self;
+        drop(walk);
+        drop(lists);
+    }
 }

@@ -14,11 +14,10 @@ use programs::{Program, Step};
 use std::alloc::{AllocError, Allocator};
 use trackers::Tracker;
 
-/// How many times as far as points lie apart a turn may go for it to be looked at: what is between two points is held.
+/// How many times as long as the way between two points a turn may be for it to be looked at: its lines are held.
 const LONGEST: usize = 8;
 
 /// The part of a way back that ends with turns that repeat, or with the way.
-#[derive(Drop)]
 pub(crate) struct Segment<'p, 'a, A: Allocator + Copy> {
     /// Points, the first of them where the part begins.
     pub(crate) points: Vec<KeptPoint<'p, 'a, A>, A>,
@@ -28,8 +27,35 @@ pub(crate) struct Segment<'p, 'a, A: Allocator + Copy> {
     pub(crate) start: usize,
 }
 
-/// Goes back to `from`, or where it is `looking` over the first turns that repeat, finds no lines, and leaves points on the way: one where it
-/// begins, and further ones `distance` steps apart.
+// Written out, so that it is a call in the proof of each function that owns one.
+impl<A: Allocator + Copy> Drop for Segment<'_, '_, A> {
+    fn drop(self) {
+        let Segment {
+            points,
+            turns,
+            start: _,
+        } = self;
+        drop(points);
+        drop(turns);
+    }
+}
+
+impl<'p, 'a, A: Allocator + Copy> Segment<'p, 'a, A> {
+    /// Its points alone.
+    pub(crate) fn into_points(self) -> Vec<KeptPoint<'p, 'a, A>, A>
+        ensures { result ≡ self.entry.points }
+    {
+        let Segment {
+            points,
+            turns: _,
+            start: _,
+        } = self;
+        points
+    }
+}
+
+/// Goes back to `from`, or where it is `looking` over the first turns that repeat, finds no lines, and leaves points on
+/// the way: one where it begins, and further ones `distance` steps apart.
 #[inline(never)]
 pub(crate) fn leave_points<'s, 'p, 'a, A: Allocator + Copy, T: Tracker>(
     program: &'p Program<'a, A>,
@@ -71,8 +97,8 @@ pub(crate) fn leave_points<'s, 'p, 'a, A: Allocator + Copy, T: Tracker>(
     })
 }
 
-// Goes back over some steps before a point, which there is: where it is `looking` over turns that repeat, which it answers; else over a step, or
-// over faults.
+// Goes back over some steps before a point, which there is: where it is `looking` over turns that repeat, which it
+// answers; else over a step, or over faults.
 #[inline(always)]
 fn back_over<'s, 'p, 'a, A: Allocator + Copy, T: Tracker>(
     program: &'p Program<'a, A>,

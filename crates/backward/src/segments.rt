@@ -1,6 +1,6 @@
-//! The text of a program's error lines, from parts that a first pass leaves: turns that repeat are written from the lines of the turn behind
-//! them, and what lies between is gone back over again.
-ghost use Rattle.std.specs.Prelude.{◌≡◌, ◌≤◌, [], false, true, length, IfOk, OnErr, OnOk};
+//! The text of a program's error lines, from parts that a first pass leaves: turns that repeat are written from the
+//! lines of the turn behind them, and what lies between is gone back over again.
+ghost use Rattle.std.specs.Prelude.{◌≡◌, [], IfOk, OnErr, OnOk};
 ghost use Rattle.step_model.specs.Pushed.{Pushes};
 ghost use Rattle.backward.specs.private.Passes.{IsPassed, Stays};
 ghost use Rattle.backward.specs.private.Points.{IsFor, IsReady, PushesSome};
@@ -22,8 +22,8 @@ use trackers::Tracker;
 /// How many parts end with turns that repeat, at most: the lines of a turn are kept for each.
 const MOST_KEPT: usize = 8;
 
-/// Goes back to the start, finds no lines, and leaves parts of the way: one where some target is known to be random, since no text is
-/// written then.
+/// Goes back to the start, finds no lines, and leaves parts of the way: one where some target is known to be random,
+/// since no text is written then.
 pub(crate) fn leave_segments<'s, 'p, 'a, A: Allocator + Copy, T: Tracker>(
     program: &'p Program<'a, A>,
     distance: usize,
@@ -52,23 +52,23 @@ pub(crate) fn leave_segments<'s, 'p, 'a, A: Allocator + Copy, T: Tracker>(
 pub(crate) fn push_kept<'p, 'a, A: Allocator + Copy, W: Sink>(
     program: &'p Program<'a, A>,
     start: usize,
-    turns: Option<KeptTurns<'p, 'a, A>>,
+    turns: &Option<KeptTurns<'p, 'a, A>>,
     lines: &mut TextStore<'_, 'a, A>,
     out: &mut Pieces,
     sink: &mut W,
 ) -> Result<usize, AllocError>
-    requires turns { AreTurnsAt program.now start turns }
+    requires turns { AreTurnsAt program.now start turns.now }
     requires store { lines.old.program.now ≡ program.now }
     requires none { lines.old.text.text ≡ [] }
-    ensures end { IfOk result (λ end. end ≡ turns_end start turns.entry) }
+    ensures end { IfOk result (λ end. end ≡ turns_end start turns.now) }
     ensures none { OnOk result (lines.new.text.text ≡ []) }
     ensures store { lines.new.program.now ≡ lines.old.program.now }
     ensures text { OnOk result
         (Pushes W.taken W.failures sink.old sink.new out.old out.new
-        (text_between program.now.listing start (turns_end start turns.entry))) }
+        (text_between program.now.listing start (turns_end start turns.now))) }
     ensures some { OnErr result
         (PushesSome W.taken W.failures sink.old sink.new out.old out.new
-        (text_between program.now.listing start (turns_end start turns.entry))) }
+        (text_between program.now.listing start (turns_end start turns.now))) }
 {
     match turns {
         Some(kept) => {
@@ -104,17 +104,21 @@ pub(crate) fn write_segments<'s, 'p, 'a, A: Allocator + Copy, T: Tracker, W: Sin
         (PushesSome W.taken W.failures sink.old sink.new out.old out.new
         (text_between program.now.listing 0 cut)) }
 {
-    while let Some(segment) = segments.pop() {
+    while let Some(mut segment) = segments.pop() {
         if out.has_failed() {
             return Ok(());
         }
-        let Segment {
-            mut points,
-            turns,
-            start,
-        } = segment;
-        let from = push_kept(program, start, turns, lines, out, sink)?;
-        write_parts(program, from, &mut points, at, found, lines, out, sink)?;
+        let from = push_kept(program, segment.start, &segment.turns, lines, out, sink)?;
+        write_parts(
+            program,
+            from,
+            &mut segment.points,
+            at,
+            found,
+            lines,
+            out,
+            sink,
+        )?;
     }
     Ok(())
 }

@@ -10,7 +10,7 @@ ghost use Rattle.backward.specs.private.Points.{AreParts, ArePoints, IsFor, IsPo
 use crate::found::Found;
 use crate::pass::steps_back;
 use crate::point::{KeptPoint, Point};
-use crate::points::{Segment, leave_points};
+use crate::points::leave_points;
 use crate::text_store::TextStore;
 use error_models::HeldText;
 use programs::Program;
@@ -153,11 +153,8 @@ pub(crate) fn cut<'s, 'p, 'a, A: Allocator + Copy, T: Tracker>(
         distance_for(place - from, to - place, program.qubits())
     };
     found.keeps = true;
-    let Segment {
-        points,
-        turns: _,
-        start: _,
-    } = leave_points(program, false, from, distance, at, found)?;
+    let segment = leave_points(program, false, from, distance, at, found)?;
+    let points = segment.into_points();
     let end = lines.take_text();
     Ok(Parts { points, end })
 }
@@ -193,7 +190,7 @@ fn cut_from<'s, 'p, 'a, A: Allocator + Copy, T: Tracker>(
     ensures store { lines.new.program.now ≡ lines.old.program.now }
 {
     at.tracker.restore(&point.lists)?;
-    at.walk = point.walk;
+    at.walk = point.walk.copy();
     cut(program, from, at, found, lines)
 }
 

@@ -1,8 +1,8 @@
-//! Turns of a block that repeat, on the way back over a stretch of steps. Where the words at a place are those of the same place one
-//! turn later, but for the numbers of detectors, the turns before it do the same again: they are gone back over at once, and their lines
-//! are those of the turn behind them.
-ghost use Rattle.std.specs.Prelude.{◌≡◌, [], ◌≤◌, ◌<◌, ◌+◌, ◌-◌, ◌*◌, true, false, length, reverse, IfOk, IfSome, OnOk};
-ghost use Rattle.backward.specs.private.Passes.{IsPassed, Stays, records_before};
+//! Turns of a block that repeat, on the way back over a stretch of steps. Where the words at a place are those of the
+//! same place one turn later, but for the numbers of detectors, the turns before it do the same again: they are gone
+//! back over at once, and their lines are those of the turn behind them.
+ghost use Rattle.std.specs.Prelude.{◌≡◌, [], ◌≤◌, ◌<◌, reverse, IfOk, IfSome, OnOk};
+ghost use Rattle.backward.specs.private.Passes.{IsPassed, Stays};
 ghost use Rattle.backward.specs.private.Points.{IsPointOf};
 ghost use Rattle.backward.specs.private.Repeats.{AreStill};
 ghost use Rattle.backward.specs.private.Segments.{turns_end};
@@ -27,11 +27,10 @@ const STRIDE: usize = 16;
 const FAR: usize = 512;
 
 /// The words at a place of a turn that repeats the one after it.
-#[derive(Drop)]
 pub(crate) struct Period<'p, 'a, A: Allocator + Copy> {
     pub(crate) point: KeptPoint<'p, 'a, A>,
     /// The same place one turn later.
-    pub(crate) later: Walk<'p, 'a, A>,
+    pub(crate) later: KeptPoint<'p, 'a, A>,
     /// By how many detectors those of a turn are earlier than those of the turn after it.
     pub(crate) by: usize,
     /// The first record from which on the lists of those before the place are as a turn later.
@@ -40,8 +39,22 @@ pub(crate) struct Period<'p, 'a, A: Allocator + Copy> {
     pub(crate) end: usize,
 }
 
+// Written out, so that it is a call in the proof of each function that owns one.
+impl<A: Allocator + Copy> Drop for Period<'_, '_, A> {
+    fn drop(self) {
+        let Period {
+            point,
+            later,
+            by: _,
+            low: _,
+            end: _,
+        } = self;
+        drop(point);
+        drop(later);
+    }
+}
+
 /// The steps of turns that repeat the one behind them.
-#[derive(Drop)]
 pub(crate) struct KeptTurns<'p, 'a, A: Allocator + Copy> {
     /// The lines of that turn.
     pub(crate) lines: TurnLines<'p, 'a, A>,
@@ -51,6 +64,20 @@ pub(crate) struct KeptTurns<'p, 'a, A: Allocator + Copy> {
     pub(crate) turns: usize,
     /// By how many detectors those of a turn are earlier than those of the turn after it.
     pub(crate) by: usize,
+}
+
+// Written out, so that it is a call in the proof of each function that owns one.
+impl<A: Allocator + Copy> Drop for KeptTurns<'_, '_, A> {
+    fn drop(self) {
+        let KeptTurns {
+            lines,
+            start: _,
+            end: _,
+            turns: _,
+            by: _,
+        } = self;
+        drop(lines);
+    }
 }
 
 /// The place behind the turns that begin at one, where there are any.
@@ -123,7 +150,7 @@ fn period_at<'s, 'p, 'a, A: Allocator + Copy>(
     requires known { IsKnown program.now.listing point.walk.place found.now }
     ensures period { IfSome result (IsPeriod program.now found.now) }
     ensures point { IfSome result (λ period. period.point.walk ≡ point.entry.walk) }
-    ensures later { IfSome result (λ period. period.later ≡ later.entry.walk) }
+    ensures later { IfSome result (λ period. period.later.walk ≡ later.entry.walk) }
     ensures end { IfSome result (λ period. (from ≤ period.end)
         × (period.end ≤ point.entry.walk.place)) }
 {
@@ -148,10 +175,6 @@ fn period_at<'s, 'p, 'a, A: Allocator + Copy>(
     } else {
         (end - low) / records
     };
-    let KeptPoint {
-        walk: later,
-        lists: _,
-    } = later;
     Some(Period {
         point,
         later,
@@ -185,7 +208,7 @@ fn repeat_turns<'s, 'p, 'a, A: Allocator + Copy, T: Tracker>(
         return Ok(0);
     }
     let mut walk = period.point.walk.copy();
-    let turns = walk.pass_turns_back(&period.later, to);
+    let turns = walk.pass_turns_back(&period.later.walk, to);
     if turns == 0 || walk.records() < period.low || at.walk.place() <= walk.place() {
         return Ok(0);
     }
@@ -204,8 +227,8 @@ fn repeat_turns<'s, 'p, 'a, A: Allocator + Copy, T: Tracker>(
     Ok(turns)
 }
 
-// Goes back over the turns before a place that repeat the turn behind it, whose words and lines these are, and keeps them. Where none
-// does, it is looked again later, each time after twice as many turns.
+// Goes back over the turns before a place that repeat the turn behind it, whose words and lines these are, and keeps
+// them. Where none does, it is looked again later, each time after twice as many turns.
 fn repeats<'s, 'p, 'a, A: Allocator + Copy, T: Tracker>(
     program: &Program<'a, A>,
     from: usize,
@@ -290,8 +313,43 @@ fn find_turn<'s, 'p, 'a, A: Allocator + Copy, T: Tracker>(
     Ok(())
 }
 
-/// Looks for a turn before a place, to `from` at most, that isn't longer than so many steps: goes back over it, gives its lines, and then
-/// goes back over the turns before it that repeat it, which are kept.
+// The same, and gives these lines to a store too.
+fn given_turn<'s, 'p, 'a, A: Allocator + Copy, T: Tracker, L: LineStore>(
+    program: &'p Program<'a, A>,
+    to: usize,
+    at: &mut Point<'p, 'a, A, T>,
+    found: &mut Found<'s, A>,
+    lines: &mut L,
+) -> Result<TurnLines<'p, 'a, A>, AllocError>
+    requires program { at.old.walk.program ≡ program.now }
+    requires to { to ≤ at.old.walk.place }
+    requires passed { IsPassed program.now.listing at.old.walk.place (T.tracked at.old.tracker)
+        found.old }
+    requires store { L.program lines.old ≡ program.now }
+    ensures program { at.new.walk.program ≡ at.old.walk.program }
+    ensures above { to ≤ at.new.walk.place }
+    ensures below { at.new.walk.place ≤ at.old.walk.place }
+    ensures passed { OnOk result
+        (IsPassed program.now.listing at.new.walk.place (T.tracked at.new.tracker) found.new) }
+    ensures stays { Stays found.old found.new }
+    ensures turn { IfOk result (λ turn. turn ≡ record {
+      program = program.now;
+      lines = reverse
+          (lines_between program.now.listing at.new.walk.place at.old.walk.place);
+    }) }
+    ensures lines { OnOk result (Gives (L.holds lines.old) (L.holds lines.new)
+        (reverse
+        (lines_between program.now.listing at.new.walk.place at.old.walk.place))) }
+    ensures store { L.program lines.new ≡ L.program lines.old }
+{
+    let mut turn = TurnLines::new(*found.alloc, program);
+    find_turn(program, to, at, found, &mut turn)?;
+    give_turn(&turn, 0, &mut Vec::new(*found.alloc), lines)?;
+    Ok(turn)
+}
+
+/// Looks for a turn before a place, to `from` at most, that isn't longer than so many steps: goes back over it, gives
+/// its lines, and then goes back over the turns before it that repeat it, which are kept.
 #[inline(never)]
 pub(crate) fn pass_turns<'s, 'p, 'a, A: Allocator + Copy, T: Tracker, L: LineStore>(
     program: &'p Program<'a, A>,
@@ -325,15 +383,10 @@ pub(crate) fn pass_turns<'s, 'p, 'a, A: Allocator + Copy, T: Tracker, L: LineSto
         return Ok(None);
     }
     let later = kept_point(*found.alloc, at)?;
-    let mut turn = TurnLines::new(*found.alloc, program);
-    find_turn(program, to, at, found, &mut turn)?;
-    let mut room = Vec::new(*found.alloc);
-    give_turn(&turn, 0, &mut room, lines)?;
-    let place = at.walk.place();
-    if place > to {
-        looks.ask = place.saturating_sub(FAR);
+    let turn = given_turn(program, to, at, found, lines)?;
+    if at.walk.place() > to {
+        looks.ask = at.walk.place().saturating_sub(FAR);
         return Ok(None);
     }
-    let kept = repeats(program, from, later, turn, at, found, looks)?;
-    Ok(kept)
+    repeats(program, from, later, turn, at, found, looks)
 }

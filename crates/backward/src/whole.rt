@@ -1,6 +1,5 @@
 //! A first pass over all steps: the text of their end, and parts before that.
-ghost use Rattle.std.specs.Prelude.{◌≡◌, ◌<◌, ◌≤◌, [], true, IfOk, OnOk, List, ◌++◌, reverse};
-ghost use Rattle.step_model.specs.ErrorModels.{ErrorLine};
+ghost use Rattle.std.specs.Prelude.{◌≡◌, ◌<◌, ◌≤◌, [], true, IfOk, OnOk, reverse};
 ghost use Rattle.error_models.specs.HeldText.{HoldsLines};
 ghost use Rattle.backward.specs.private.Passes.{IsPassed};
 ghost use Rattle.backward.specs.private.Segments.{AreTurnsAt, AreWhole, turns_end};

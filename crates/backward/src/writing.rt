@@ -141,7 +141,7 @@ fn push_parts<'s, 'p, 'a, A: Allocator + Copy, T: Tracker, W: Sink>(
                 end,
             } = parts;
             write_segments(program, cut, &mut segments, at, found, lines, out, sink)?;
-            push_kept(program, cut, turns, lines, out, sink)?;
+            push_kept(program, cut, &turns, lines, out, sink)?;
             end.push_to(out, sink);
             push_declarations(program, out, sink);
             Ok(None)

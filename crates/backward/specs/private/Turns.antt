@@ -17,17 +17,17 @@ use Rattle.backward.specs.private.TurnLines.{turn_lines}
 -- a place with its words, and a later one, with what is known where the turns between repeat
 pub record IsPeriod {A : Type 0} (program : KeptProgram) (found : Found A) (period : Period A) : Type 0 where
   pub point : IsPointOf program period.point
-  pub later_is : period.later.program ≡ program
-  pub within : period.later.place ≤ length program.listing.steps
-  pub earlier : period.point.walk.place < period.later.place
-  pub still : AreStill program.listing period.point.walk.place period.later.place
-  pub moved : AreMoved program.listing period.by period.point.walk.place period.later.place
+  pub later_is : period.later.walk.program ≡ program
+  pub within : period.later.walk.place ≤ length program.listing.steps
+  pub earlier : period.point.walk.place < period.later.walk.place
+  pub still : AreStill program.listing period.point.walk.place period.later.walk.place
+  pub moved : AreMoved program.listing period.by period.point.walk.place period.later.walk.place
   pub lists : HoldsLists program.listing found.settled period.point.walk.place found.known found.lists
   pub none_latest : length found.latest.items ≡ 0
   pub none_placed : found.settled ≡ false → NonePlaced program.listing period.point.walk.place
   pub repeated : AreRepeated program.listing found.lists period.low (records_before program.listing period.point.walk.place)
-      (records_before program.listing period.later.place - records_before program.listing period.point.walk.place) period.by
-  pub known : records_before program.listing period.later.place ≤ found.known
+      (records_before program.listing period.later.walk.place - records_before program.listing period.point.walk.place) period.by
+  pub known : records_before program.listing period.later.walk.place ≤ found.known
 
 -- what is kept at a place beside the words
 pub record IsKnown {A : Type 0} (program : Listing) (place : ℕ) (found : Found A) : Type 0 where
@@ -59,4 +59,4 @@ pub record AreGonePast {A : Type 0} (program : KeptProgram) (period : Period A) 
   pub before : place < period.point.walk.place
   pub far : turns * period.by < 2 ^ 64
   pub lines : lines_between program.listing place period.point.walk.place
-      ≡ turn_lines (length program.listing.detectors) period.by turns (lines_between program.listing period.point.walk.place period.later.place)
+      ≡ turn_lines (length program.listing.detectors) period.by turns (lines_between program.listing period.point.walk.place period.later.walk.place)

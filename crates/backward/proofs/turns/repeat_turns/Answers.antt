@@ -1,34 +1,33 @@
 use Rattle.std.proofs.Common.{refl, ap, sym, ◌∙◌, arith}
-use Rattle.backward.proofs.TurnJumps.{jumped}
+use Rattle.backward.proofs.TurnJumps.{Jumped, jumped}
+use Rattle.backward.proofs.turns.repeat_turns.Given.{Over}
 use Rattle.backward.proofs.turns.repeat_turns.Goals as goal
+use Rattle.backward.proofs.turns.repeat_turns.Goals.{In_ok-lists}
+
+-- the turns that the walk went back over are those that repeat
+jump : (g : Over) (c : In_ok-lists g) → Jumped c.args.program.now c.args.found.now c.args.period.now c.pass_turns_back-turns.new.self c.pass_turns_back-turns.result (g.T.Tracker.tracked c.args.at.now.tracker) c.in_ok-lists.lists
+jump g c =
+    let pass = c.pass_turns_back-turns in
+    jumped c.args.program.now c.args.found.now c.args.period.now c.copy-walk.result pass.new.self pass.result c.in-Some.by c.args.at.now.walk.place (g.T.Tracker.tracked c.args.at.now.tracker) c.in_ok-lists.lists c.detector_count.result c.records.result
+    c.well_formed-2.ensures.listing c.requires.period c.copy-walk.ensures pass.ensures.program pass.ensures.place (pass.ensures.repeat (omega (arith, c.if-turns-eq0.false))) (pass.ensures.faults (omega (arith, c.if-turns-eq0.false))) c.records.ensures (omega (arith, c.if-records-period.false)) c.in-Some.ensures.1 c.in_ok-lists.ensures c.detector_count.ensures c.requires.passed.words
 
 pub restore-requires : goal.restore-requires
-restore-requires g c =
-    let pass = c.pass_turns_back-turns in
-    (jumped c.args.program.now c.args.found.now c.args.period.now c.copy-walk.result pass.new.self pass.result c.in-Some.by c.args.at.now.walk.place (g.T.Tracker.tracked c.args.at.now.tracker) c.in_ok-lists.lists c.detector_count.result c.records.result
-    c.well_formed-2.ensures.listing c.requires.period c.copy-walk.ensures pass.ensures.program pass.ensures.place (pass.ensures.repeat (omega (arith, c.if-turns-eq0.false))) (pass.ensures.faults (omega (arith, c.if-turns-eq0.false))) c.records.ensures (omega (arith, c.if-records-period.false)) c.in-Some.ensures.1 c.in_ok-lists.ensures c.detector_count.ensures c.requires.passed.words).fit
+restore-requires g c = (jump g (goal.at.restore-requires g c).In_ok-lists).fit
 
 pub returns-clause-passed : goal.returns-clause-passed
 returns-clause-passed g c =
     let pass = c.pass_turns_back-turns in
-    let jump =
-    jumped c.args.program.now c.args.found.now c.args.period.now c.copy-walk.result pass.new.self pass.result c.in-Some.by c.args.at.now.walk.place (g.T.Tracker.tracked c.args.at.now.tracker) c.in_ok-lists.lists c.detector_count.result c.records.result
-    c.well_formed-2.ensures.listing c.requires.period c.copy-walk.ensures pass.ensures.program pass.ensures.place (pass.ensures.repeat (omega (arith, c.if-turns-eq0.false))) (pass.ensures.faults (omega (arith, c.if-turns-eq0.false))) c.records.ensures (omega (arith, c.if-records-period.false)) c.in-Some.ensures.1 c.in_ok-lists.ensures c.detector_count.ensures c.requires.passed.words in
     record {
       program_is = pass.ensures.program ∙ (ap (λ w. w.program) c.copy-walk.ensures ∙ (c.requires.period.point.program_is ∙ sym c.requires.program));
       above = pass.ensures.above;
-      passed = jump.passed _ _ c.in_ok-restore.ensures c.collapses-found.ensures;
+      passed = (jump g (goal.at.returns-clause-passed g c).In_ok-lists).passed _ _ c.in_ok-restore.ensures c.collapses-found.ensures;
       stays = record { settled = refl; keeps = refl; known = λ e. refl };
     }
 
 pub returns-clause-turns : goal.returns-clause-turns
 returns-clause-turns g c some =
-    let pass = c.pass_turns_back-turns in
-    let jump =
-    jumped c.args.program.now c.args.found.now c.args.period.now c.copy-walk.result pass.new.self pass.result c.in-Some.by c.args.at.now.walk.place (g.T.Tracker.tracked c.args.at.now.tracker) c.in_ok-lists.lists c.detector_count.result c.records.result
-    c.well_formed-2.ensures.listing c.requires.period c.copy-walk.ensures pass.ensures.program pass.ensures.place (pass.ensures.repeat (omega (arith, c.if-turns-eq0.false))) (pass.ensures.faults (omega (arith, c.if-turns-eq0.false))) c.records.ensures (omega (arith, c.if-records-period.false)) c.in-Some.ensures.1 c.in_ok-lists.ensures c.detector_count.ensures c.requires.passed.words in
     record {
       before = omega (arith, c.if-place.false, c.place-else-records-period.ensures, c.place-else-records-period-2.ensures, c.requires.here);
       far = omega (arith, c.in-Some.ensures.0);
-      lines = jump.lines;
+      lines = (jump g (goal.at.returns-clause-turns g c).In_ok-lists).lines;
     }
