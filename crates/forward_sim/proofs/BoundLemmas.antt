@@ -1,5 +1,5 @@
 -- The bounds of a program's faults, one after another.
-use Rattle.std.proofs.Common.{◌≡◌, ℕ, ◌+◌, ◌-◌, ◌<◌, List, [], ◌∷◌, ◌++◌, length, take, get_or, sym, ap, ap₂, ◌∙◌, arith, length-append}
+use Rattle.std.proofs.Common.{◌≡◌, ℕ, ◌+◌, ◌-◌, ◌<◌, List, [], ◌∷◌, ◌++◌, length, take, get_or, sym, ap₂, ◌∙◌, arith}
 use Rattle.std.proofs.lemmas.List.{take_more, get_or-map, length-map, take_all}
 use Rattle.step_model.specs.Listing.{Listing, ListedFault, fault_at, no_effect}
 use Rattle.forward_sim.specs.Drawn.{bounds_of}
@@ -20,6 +20,3 @@ bounds_more program bounds f bound below here so_far =
 -- all of them
 pub bounds_all : (program : Listing) (f : ℕ) → length program.faults - f ≡ 0 → take f (bounds_of program) ≡ bounds_of program
 bounds_all program f none = take_all f (bounds_of program) (omega (arith, none, length-map program.faults bound_in))
-
-pub count_more : (xs : List ℕ) (x : ℕ) (ys : List ℕ) → ys ≡ xs ++ x ∷ [] → length ys ≡ length xs + 1
-count_more xs x ys e = ap length e ∙ length-append xs (x ∷ [])

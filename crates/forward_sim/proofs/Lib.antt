@@ -16,9 +16,11 @@ pub mod RunLemmas
 pub mod WordLemmas
 pub mod HalfLemmas
 pub mod BoundLemmas
+pub mod BoundWalks
 pub mod BoundHits
 pub mod LaneLemmas
 pub mod LaneWords
 pub mod PairLemmas
 pub mod PairHits
 pub mod SideLemmas
+pub mod Rotations

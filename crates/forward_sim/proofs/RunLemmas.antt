@@ -1,9 +1,9 @@
 -- Runs of equal bounds, one after another.
-use Rattle.std.proofs.Common.{◌≡◌, ℕ, ◌+◌, ◌-◌, ◌<◌, ◌≤◌, false, List, [], ◌∷◌, ◌++◌, length, get_or, take, replicate, refl, sym, ap, ap₂, ◌∙◌, arith, length-append, append_assoc}
+use Rattle.std.proofs.Common.{◌≡◌, ℕ, ◌+◌, ◌-◌, ◌<◌, ◌≤◌, false, List, [], ◌∷◌, ◌++◌, length, get_or, take, replicate, sym, ap, ◌∙◌, arith, length-append, append_assoc}
 use Rattle.std.proofs.lemmas.Bool.{le-ltb}
 use Rattle.std.proofs.Math.Dec.{leb-suc-suc}
-use Rattle.std.specs.Prelude.{zero, suc, nat_lt}
-use Rattle.std.proofs.lemmas.List.{take_all, take_more, length-map, length-take, length-replicate, get_or-map, map-append, replicate_more, append-nil}
+use Rattle.std.specs.Prelude.{suc, nat_lt}
+use Rattle.std.proofs.lemmas.List.{take_all, take_more, length-map, length-take, length-replicate, get_or-map, replicate_more, append-nil}
 use Rattle.std.proofs.lemmas.List.Folds.{length-flat_map-take}
 use Rattle.std.proofs.lemmas.Grind.{flat_map-append}
 use Rattle.rand_pcg.specs.Lcg.{Lcg}
@@ -54,20 +54,6 @@ above_count words k within =
 
 pub above_all : (words : List ℕ) (k : ℕ) → length words ≤ k → take k (bounds_above words) ≡ bounds_above words
 above_all words k over = take_all k (bounds_above words) (omega (arith, over, length-map words (λ w. w + 1)))
-
--- the words of one run more
-above_replicate : (n most : ℕ) → bounds_above (replicate n most) ≡ replicate n (most + 1)
-above_replicate zero most = refl
-above_replicate (suc n) most = ap (λ xs. (most + 1) ∷ xs) (above_replicate n most)
-
-pub above_run : (words front : List ℕ) (run : BoundRun) (end n most : ℕ) → end ≡ length words + run.count → n ≡ length words → run.bound ≡ most + 1 → bounds_above words ≡ front
-    → bounds_above (take end words ++ replicate (end - n) most) ≡ front ++ bounds_of_run run
-above_run words front run end n most whole size next so_far =
-    let count : end - n ≡ run.count = omega (arith, whole, size) in
-    map-append (λ w. w + 1) (take end words) (replicate (end - n) most)
-    ∙ ap₂ (λ xs ys. xs ++ ys)
-    (ap bounds_above (take_all end words (omega (arith, whole))) ∙ so_far)
-    (above_replicate (end - n) most ∙ ap₂ replicate count (sym next))
 
 -- the next number below which a word is the greatest
 pub next_above : (most : ℕ) → IsGreatestBelow (most + 1) most

@@ -4,7 +4,7 @@ use Rattle.std.specs.List.{range_with_len}
 use Rattle.std.proofs.lemmas.List.{take_more_set}
 use Rattle.std.proofs.lemmas.List.FromFn.{map-range_with_len_more}
 use Rattle.rand_pcg.specs.Lcg.{Lcg, next, next_state, state_after}
-use Rattle.rand_pcg.specs.Pcg.{multiplier_128, pcg64}
+use Rattle.rand_pcg.specs.Pcg.{multiplier_128, output_xsl_rr, pcg64}
 use Rattle.forward_sim.specs.Drawn.{after_words, word_at}
 
 -- so many steps and one more
@@ -54,6 +54,11 @@ word_taken g rng then k word step at = ap (λ (p : ℕ × Lcg). p.0) step ∙ ap
 pub word_left : (g rng then : Lcg) (k word : ℕ) → (word, then) ≡ pcg64 rng → rng ≡ after_words k g → then ≡ after_words (k + 1) g
 word_left g rng then k word step at =
     ap (λ (p : ℕ × Lcg). p.1) step ∙ (ap (next 128 multiplier_128) at ∙ after_words-more k g)
+
+-- the word, by the state that it was made in
+pub word_of_state : (g then : Lcg) (word state : ℕ) → (word, then) ≡ pcg64 g → state ≡ then.state → output_xsl_rr state ≡ word
+word_of_state g then word state step at =
+    ap output_xsl_rr (at ∙ ap (λ (p : ℕ × Lcg). p.1.state) step) ∙ sym (ap (λ (p : ℕ × Lcg). p.0) step)
 
 -- a list that is filled from its start
 pub filled_more : {X : Type 0} (f : ℕ → X) (xs : List X) (i : ℕ) (y : X) → i < length xs → y ≡ f i → take i xs ≡ map f (range_with_len 0 i) → take (i + 1) (set xs i y) ≡ map f (range_with_len 0 (i + 1))

@@ -6,3 +6,4 @@ pub mod SameRuns
 pub mod BoundRuns
 pub mod LaneDraws
 pub mod PairDraws
+pub mod Sieves

@@ -1,5 +1,5 @@
 // A shot drawn into one lane of words.
-ghost use Rattle.std.specs.Prelude.{◌≡◌, ◌==◌, ◌||◌, ℕ, ◌+◌, ◌-◌, ◌<◌, ◌≤◌, nat_lt, if◌then◌else◌, length};
+ghost use Rattle.std.specs.Prelude.{◌≡◌, ◌==◌, ◌||◌, ℕ, ◌+◌, ◌-◌, ◌<◌, ◌≤◌, if◌then◌else◌, length};
 ghost use Rattle.bit_rows.specs.Lanes.{lane_bit};
 ghost use Rattle.forward_sim.specs.private.BoundRuns.{bounds_above, bounds_in, bounds_of_run};
 ghost use Rattle.forward_sim.specs.Drawn.{after_words};

@@ -1,5 +1,5 @@
 //! A list of numbers that is read before it is known how many things they number: the numbers are kept, and not marks.
-ghost use Rattle.std.specs.Prelude.{◌≡◌, ◌↔◌, is_some, None, Some, IfOk, IsTrue, MatchOption};
+ghost use Rattle.std.specs.Prelude.{◌≡◌, ◌↔◌, is_some, IfOk, IsTrue, MatchOption};
 ghost use Rattle.std.specs.List.{filter_map, list_all, slice_split};
 ghost use Rattle.std.specs.List.Sorted.{IsStrictlyIncreasing};
 ghost use Rattle.forward_sim.specs.Listed.{IsListOf, IsNoList};

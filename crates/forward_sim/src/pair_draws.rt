@@ -1,5 +1,5 @@
 // Shots drawn into two lanes at once, each by a generator of its own.
-ghost use Rattle.std.specs.Prelude.{◌≡◌, ◌≢◌, ℕ, ◌+◌, ◌-◌, ◌<◌, ◌≤◌, [], ◌∷◌, length};
+ghost use Rattle.std.specs.Prelude.{◌≡◌, ◌≢◌, ℕ, ◌+◌, ◌-◌, ◌<◌, ◌≤◌, [], ◌∷◌, length, slice_index};
 ghost use Rattle.forward_sim.specs.private.BoundRuns.{IsGreatestBelow, bounds_above, bounds_in, bounds_of_run};
 ghost use Rattle.forward_sim.specs.Drawn.{after_words};
 ghost use Rattle.forward_sim.specs.private.LaneDraws.{HasRoom, coin_hits, fault_hits, toss_hits};
@@ -7,9 +7,11 @@ ghost use Rattle.forward_sim.specs.private.PairDraws.{BothDrawn, DrawsIntoBoth};
 
 use crate::copies::copy_of;
 use crate::fault_bounds::FaultBounds;
-use crate::lane_draws::{strike, toss};
+use crate::lane_draws::toss;
 use crate::runs::{BoundRun, word_below};
+use crate::sieve::Sieve;
 use crate::span::Span;
+use crate::striker::{Comparison, Striker};
 use rand_core::utils::NextWord;
 use rand_pcg::Pcg64;
 use std::alloc::Allocator;
@@ -63,7 +65,8 @@ fn draw_faults<A: Allocator + Copy>(
     ensures { BothDrawn lanes.first lanes.second 0 bounds.now first.old second.old
         faults.old faults.new first.new second.new }
 {
-    let start = draw_runs(faults, bounds.runs.as_slice(), lanes, first, second);
+    let runs = bounds.runs.as_slice();
+    let start = draw_runs(faults, runs, &bounds.sieve, lanes, first, second);
     let greatest = bounds.greatest.as_slice();
     draw_each(faults, start, greatest, lanes, first, second);
 }
@@ -72,6 +75,7 @@ fn draw_faults<A: Allocator + Copy>(
 fn draw_runs(
     faults: &mut [u64],
     runs: &[BoundRun],
+    sieve: &Sieve,
     lanes: LanePair,
     first: &mut Pcg64,
     second: &mut Pcg64,
@@ -84,18 +88,18 @@ fn draw_runs(
     let mut start = 0;
     for r in 0..runs.len() {
         let run = runs[r];
-        draw_run(faults, start, run, lanes, first, second);
+        draw_run(faults, start, run, sieve, lanes, first, second);
         start += run.count;
     }
     start
 }
 
-// The same for the faults of one run. Not inlined, so that the loop has the registers to itself.
-#[inline(never)]
+// The same for the faults of one run.
 fn draw_run(
     faults: &mut [u64],
     start: usize,
     run: BoundRun,
+    sieve: &Sieve,
     lanes: LanePair,
     first: &mut Pcg64,
     second: &mut Pcg64,
@@ -107,20 +111,42 @@ fn draw_run(
     if run.bound == 0 {
         first.advance(run.count as u128);
         second.advance(run.count as u128);
-        return;
+    } else if run.bound <= 1 << 55 {
+        draw_equal(faults, start, run, sieve, lanes, first, second);
+    } else {
+        draw_equal(faults, start, run, &Comparison, lanes, first, second);
     }
+}
+
+// The same for a run whose faults may happen. Not inlined, so that the loop has the registers to itself.
+#[inline(never)]
+fn draw_equal<S: Striker>(
+    faults: &mut [u64],
+    start: usize,
+    run: BoundRun,
+    striker: &S,
+    lanes: LanePair,
+    first: &mut Pcg64,
+    second: &mut Pcg64,
+)
+    requires within { start + run.count ≤ length faults.old }
+    requires some { 0 < run.bound }
+    requires serves { (word : ℕ) → word < run.bound → S.serves striker.now word }
+    ensures { BothDrawn lanes.first lanes.second start (bounds_of_run run) first.old second.old
+        faults.old faults.new first.new second.new }
+{
     let most = word_below(run.bound);
     // A copy stays in registers.
     let mut one = copy_of(first);
     let mut two = copy_of(second);
     for k in 0..run.count {
-        draw_fault(faults, start + k, most, lanes, &mut one, &mut two);
+        draw_fault(faults, start + k, most, striker, lanes, &mut one, &mut two);
     }
     *first = one;
     *second = two;
 }
 
-// The same for faults each of which has a greatest word of its own, with which it happens.
+// The same for faults each of which has a greatest word of its own, with which it happens. (A sieve gains nothing here.)
 #[inline(never)]
 fn draw_each(
     faults: &mut [u64],
@@ -137,7 +163,16 @@ fn draw_each(
     let mut one = copy_of(first);
     let mut two = copy_of(second);
     for k in 0..greatest.len() {
-        draw_fault(faults, start + k, greatest[k], lanes, &mut one, &mut two);
+        let most = greatest[k];
+        draw_fault(
+            faults,
+            start + k,
+            most,
+            &Comparison,
+            lanes,
+            &mut one,
+            &mut two,
+        );
     }
     *first = one;
     *second = two;
@@ -145,24 +180,27 @@ fn draw_each(
 
 // The same for one fault, by the greatest word with which it happens.
 #[inline(always)]
-fn draw_fault(
+fn draw_fault<S: Striker>(
     faults: &mut [u64],
     f: usize,
     most: u64,
+    striker: &S,
     lanes: LanePair,
     first: &mut Pcg64,
     second: &mut Pcg64,
 )
-    requires { f < length faults.old }
+    requires within { f < length faults.old }
+    requires serves { S.serves striker.now most }
     ensures { (bound : ℕ)
         → IsGreatestBelow bound most
         → BothDrawn lanes.first lanes.second f (bound ∷ []) first.old second.old
         faults.old faults.new first.new second.new }
 {
-    let word = first.next_word();
-    let other = second.next_word();
-    strike(faults, f, lanes.first, word <= most);
-    strike(faults, f, lanes.second, other <= most);
+    // The striker makes the words that it needs, by the states that this leaves.
+    let _ = first.next_word();
+    let _ = second.next_word();
+    striker.strike_up_to(faults, f, lanes.first, most, first.state());
+    striker.strike_up_to(faults, f, lanes.second, most, second.state());
 }
 
 // The generators pass over the words of the coins of a span.

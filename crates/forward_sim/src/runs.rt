@@ -1,5 +1,5 @@
 // The bounds of a program's faults, as runs of equal ones: a noise instruction makes many faults of one bound.
-ghost use Rattle.std.specs.Prelude.{◌≡◌, ◌+◌, ◌^◌, ◌<◌, ◌≤◌, [], ◌∷◌, ◌++◌, IfOk, OnOk};
+ghost use Rattle.std.specs.Prelude.{◌≡◌, ◌+◌, ◌^◌, ◌<◌, ◌≤◌, ◌∷◌, ◌++◌, ◌/◌, ◌↔◌, [], IfOk, IfSome, IfNone, OnOk, IsTrue};
 ghost use Rattle.forward_sim.specs.private.BoundRuns.{IsGreatestBelow, bounds_in, bounds_of_run};
 ghost use Rattle.forward_sim.specs.Drawn.{bounds_of};
 
@@ -13,26 +13,41 @@ pub(crate) struct BoundRun {
     pub(crate) count: usize,
 }
 
+/// The runs, or none where there are more than `few` and these are short.
 pub(crate) fn bound_runs<A: Allocator + Copy>(
     alloc: A,
     program: &Program<'_, A>,
-) -> Result<Vec<BoundRun, A>, AllocError>
-    ensures { IfOk result (λ runs. bounds_in runs.items ≡ bounds_of program.now.listing) }
+    few: usize,
+) -> Result<Option<Vec<BoundRun, A>>, AllocError>
+    ensures runs { IfOk result (λ found. IfSome found (λ runs. bounds_in runs.items
+        ≡ bounds_of program.now.listing)) }
+    ensures none { IfOk result (λ found. IfNone found (few < usize.MAX)) }
 {
     program.well_formed();
     let mut runs = Vec::new(alloc);
     // Any bound will do for a run of no faults, but not 0, which no word is below.
     let mut last = BoundRun { bound: 1, count: 0 };
     let mut walk = Walk::start(program);
-    for _number in 0..program.fault_count() {
+    for number in 0..program.fault_count() {
+        if few < runs.len() && are_short(runs.len(), number) {
+            return Ok(None);
+        }
         let Some(fault) = next_fault(&mut walk) else {
             // Never: the walk meets as many faults as are counted.
-            return Ok(runs);
+            return Ok(None);
         };
         count_fault(&mut runs, &mut last, program.entry_bound(fault.entry))?;
     }
     runs.push(last)?;
-    Ok(runs)
+    Ok(Some(runs))
+}
+
+/// Whether so many runs of so many faults are short. A run takes the memory of four words, and the call that draws it the time of
+/// some two faults.
+pub(crate) fn are_short(runs: usize, faults: u32) -> bool
+    ensures { IsTrue result ↔ faults / 4 < runs }
+{
+    faults as usize / 4 < runs
 }
 
 // A fault of this bound goes on with the last run, or it begins one.
@@ -59,6 +74,7 @@ fn count_fault<A: Allocator + Copy>(
 pub(crate) fn word_below(bound: u128) -> u64
     requires { 0 < bound }
     ensures greatest { IsGreatestBelow bound result }
+    ensures below { result < bound }
     ensures next { bound ≤ 2 ^ 64 → bound ≡ result + 1 }
 {
     if bound < 1 << 64 {

@@ -1,5 +1,5 @@
 // Shots drawn side by side into the lanes of words.
-ghost use Rattle.std.specs.Prelude.{◌≡◌, ◌+◌, ◌*◌, ◌≤◌, length};
+ghost use Rattle.std.specs.Prelude.{◌≡◌, ◌*◌, ◌≤◌, length};
 ghost use Rattle.forward_sim.specs.Drawn.{after_shots};
 ghost use Rattle.forward_sim.specs.Shots.{AreDrawn};
 ghost use Rattle.forward_sim.specs.private.LaneDraws.{HasRoom};

@@ -1,4 +1,4 @@
-ghost use Rattle.std.specs.Prelude.{◌≡◌, ◌+◌, ◌<◌, ◌≤◌, true, false, if◌then◌else◌, is_some, length, option_map, slice_index_or};
+ghost use Rattle.std.specs.Prelude.{◌≡◌, ◌+◌, ◌<◌, ◌≤◌, false, if◌then◌else◌, is_some, length, option_map, slice_index_or};
 ghost use Rattle.pauli_word.specs.States.{applied};
 ghost use Rattle.pauli_word.specs.Words.{lone_letter};
 ghost use Rattle.programs.specs.Listed.{listed, number_of};

@@ -1,40 +1,43 @@
--- Run after run.
-use Rattle.std.proofs.Common.{◌+◌, take, get_or, length, ap, ◌∙◌, arith}
-use Rattle.std.proofs.lemmas.List.{length-map, take_all}
-use Rattle.forward_sim.specs.declared.runs.BoundRun.{BoundRun}
-use Rattle.forward_sim.specs.private.BoundRuns.{bounds_above, bounds_in}
-use Rattle.forward_sim.proofs.RunLemmas.{above_run, run_fits, runs_more}
+-- Each fault's word is pushed in its turn.
+use Rattle.std.proofs.Common.{◌≡◌, ◌+◌, ◌∷◌, [], ◌++◌, length, length-append, refl, sym, ap, subst, ◌∙◌}
+use Rattle.std.proofs.lemmas.List.{map-append}
+use Rattle.forward_sim.specs.private.BoundRuns.{bounds_above}
+use Rattle.forward_sim.proofs.BoundWalks.{BoundsBehind, all_behind, none_behind, one_more_behind, walk_fits}
 use Rattle.forward_sim.proofs.fault_bounds.greatest_words.Goals as goal
 
-abbrev none : BoundRun
-none = record { bound = 0; count = 0 }
-
-pub overflow_add-len : goal.overflow_add-len
-overflow_add-len g c =
+pub loop-fault-init : goal.loop-fault-init
+loop-fault-init g c =
+    let program = c.args.program.now in
+    let none = none_behind program c.start-walk.result c.well_formed-2.ensures.listing c.start-walk.ensures.program c.start-walk.ensures.place in
     record {
-      fits =
-          omega (
-            arith,
-            c.requires,
-            c.ranges.count.fits,
-            c.len.ensures,
-            c.loop-r.words.ok.0,
-            ap length c.loop-r.invariant,
-            length-map c.loop-r.words.items (λ w. w + 1),
-            run_fits c.args.runs.now c.loop-r.r none c.loop-r-test.true,
-          );
+      room = c.in_ok-words.ensures.exact ∙ c.fault_count.ensures;
+      behind = subst (λ words. BoundsBehind program c.start-walk.result (length words) (bounds_above words)) (sym c.in_ok-words.ensures.items) none;
     }
 
-pub loop-r-preserved : goal.loop-r-preserved
-loop-r-preserved g c =
-    let runs = c.args.runs.now in
-    let r = c.loop-r.r in
-    let run = get_or runs r none in
-    let words = c.loop-r.words in
-    ap bounds_above c.in_ok-resize.ensures.items
-    ∙ (above_run words.items (bounds_in (take r runs)) run (c.len.result + run.count) words.len c.word_below.result (omega (arith, c.len.ensures, words.ok.0)) (omega (arith, words.ok.0))
-    (c.word_below.ensures.next c.if-run.false) c.loop-r.invariant
-    ∙ runs_more runs r none c.loop-r-test.true)
+pub next_fault-requires : goal.next_fault-requires
+next_fault-requires g c =
+    let words = c.loop-fault.words.items in
+    walk_fits c.args.program.now c.loop-fault.walk (length words) (bounds_above words) c.loop-fault.invariant.behind c.well_formed-2.ensures.listing
+
+pub loop-fault-preserved : goal.loop-fault-preserved
+loop-fault-preserved g c =
+    let program = c.args.program.now in
+    let words = c.loop-fault.words.items in
+    let most = c.word_below.result in
+    let fault = c.in-Some in
+    let more =
+    one_more_behind program c.loop-fault.walk (length words) (bounds_above words) c.loop-fault.invariant.behind c.next_fault.new.walk fault.fault fault.ensures.found fault.ensures.next
+    c.entry_bound-bound.result fault.ensures.program c.entry_bound-bound.ensures in
+    let bounds : bounds_above words ++ c.entry_bound-bound.result ∷ [] ≡ bounds_above (words ++ most ∷ []) =
+    ap (λ bound. bounds_above words ++ bound ∷ []) (c.word_below.ensures.next c.if-bound.false) ∙ sym (map-append (λ w. w + 1) words (most ∷ [])) in
+    let pushed = subst (BoundsBehind program c.next_fault.new.walk (length words + 1)) bounds more in
+    let counted = subst (λ n. BoundsBehind program c.next_fault.new.walk n (bounds_above (words ++ most ∷ []))) (sym (length-append words (most ∷ []))) pushed in
+    record {
+      room = c.push_reserved.ensures.capacity ∙ c.loop-fault.invariant.room;
+      behind = subst (λ ws. BoundsBehind program c.next_fault.new.walk (length ws) (bounds_above ws)) (sym c.push_reserved.ensures.items) counted;
+    }
 
 pub returns : goal.returns
-returns g c = c.loop-r.invariant ∙ ap bounds_in (take_all c.loop-r.r c.args.runs.now (omega arith))
+returns g c =
+    let words = c.loop-fault.words.items in
+    all_behind c.args.program.now c.loop-fault.walk (length words) (bounds_above words) c.loop-fault.invariant.behind (c.in_default.ensures.end refl)

@@ -7,7 +7,7 @@ use Rattle.forward_sim.proofs.RunLemmas.{above_all, above_count, above_more, nex
 use Rattle.forward_sim.proofs.pair_draws.draw_each.Goals as goal
 
 pub draw_fault-requires : goal.draw_fault-requires
-draw_fault-requires c = omega (arith, c.loop-k.invariant.drawn.size, c.requires)
+draw_fault-requires c = record { within = omega (arith, c.loop-k.invariant.drawn.size, c.requires); serves = tt }
 
 pub loop-k-init : goal.loop-k-init
 loop-k-init c =
