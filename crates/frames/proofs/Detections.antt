@@ -8,7 +8,7 @@ use Rattle.run_laws.proofs.ShiftLists.{parity-joined}
 use Rattle.step_model.specs.Listing.{Listing}
 use Rattle.step_model.specs.Targets.{difference, parity, target_at, targets_of}
 
-undone : (a b : Bool) → exclusive_or (exclusive_or a b) b ≡ a
+pub undone : (a b : Bool) → exclusive_or (exclusive_or a b) b ≡ a
 undone false false = refl
 undone false true = refl
 undone true false = refl

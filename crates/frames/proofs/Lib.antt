@@ -3,6 +3,7 @@ mod Passing
 mod StillFrames
 mod TermWords
 pub mod Beside
+pub mod CarriedFrames
 pub mod Detections
 pub mod FollowedSteps
 pub mod FollowLaw

@@ -9,10 +9,7 @@ use Rattle.std.proofs.lemmas.List.FromFn.{get_or-map-range_with_len, length-map-
 use Rattle.rand_pcg.specs.Lcg.{Lcg}
 use Rattle.step_model.specs.Listing.{Listing, ListedFault}
 use Rattle.step_model.proofs.RangeLemmas.{range-append}
-use Rattle.step_model.specs.Frames.{zero_coins}
-use Rattle.step_model.specs.Runs.{records_of}
 use Rattle.bit_rows.specs.Lanes.{lane}
-use Rattle.frames.specs.Batches.{DontCount}
 use Rattle.forward_sim.specs.Drawn.{after_words, bounds_of, drawn_coins, drawn_faults, after_shots, word_at}
 use Rattle.forward_sim.specs.Shots.{AreDrawn, is_tossed, tossed_coins}
 use Rattle.forward_sim.specs.declared.span.Span.{Span}
@@ -22,7 +19,7 @@ use Rattle.frames.specs.Lines.{line_of}
 use Rattle.frames.specs.Sampled.{lines_from, shot_faults, shot_generator}
 use Rattle.frames.specs.declared.side_runs.Shown.{Shown}
 use Rattle.frames.specs.Shown.{shown_line}
-use Rattle.frames.specs.private.ShownRuns.{shown_beside, shown_of}
+use Rattle.frames.specs.private.ShownRuns.{DontShow, shown_of}
 use Rattle.frames.proofs.ShownLemmas.{shown_line-is}
 
 -- texts by numbers from elsewhere on
@@ -86,10 +83,10 @@ tossed_alike passed collapses g k is =
     ∙ sym (get_or_past (tossed_coins passed collapses g) k false (omega (arith, past, length-map-range_with_len hits 0 collapses))))
     (cases_lt k collapses)
 
--- so where the others don't count, they make the records of the shot
-records_alike : (passed : Span) (program : Listing) (faults : List Bool) (g : Lcg) → DontCount program passed
-    → records_of program faults (drawn_coins program.collapses g) ≡ records_of program faults (tossed_coins passed program.collapses g)
-records_alike passed program faults g dont =
+-- so where the others don't count, they show the same of the shot
+shown_alike : (passed : Span) (shown : Shown) (program : Listing) (faults : List Bool) (g : Lcg) → DontShow shown program passed
+    → shown_of shown program faults (drawn_coins program.collapses g) ≡ shown_of shown program faults (tossed_coins passed program.collapses g)
+shown_alike passed shown program faults g dont =
     dont faults (drawn_coins program.collapses g) (tossed_coins passed program.collapses g)
     (length-map-range_with_len _ 0 program.collapses)
     (length-map-range_with_len _ 0 program.collapses)
@@ -97,7 +94,7 @@ records_alike passed program faults g dont =
 
 -- the line of a shot that was drawn into a lane and run
 pub drawn_line : (passed : Span) (shown : Shown) (program : Listing) (count j : ℕ) (g : Lcg) (faults coins words : List ℕ) → count ≤ 64 → j < count
-    → AreDrawn passed (bounds_of program) program.collapses count g faults coins → DontCount program passed
+    → AreDrawn passed (bounds_of program) program.collapses count g faults coins → DontShow shown program passed
     → ((i : ℕ) → i < 64 → lane i words ≡ shown_of shown program (lane i faults) (lane i coins))
     → shown_line shown program (shot_generator program g j) ≡ lane_line words j
 drawn_line passed shown program count j g faults coins words few below drawn dont runs =
@@ -109,6 +106,6 @@ drawn_line passed shown program count j g faults coins words few below drawn don
     ap (λ m. tossed_coins passed program.collapses (after_words m (after_shots m program.collapses j g))) (sym n) ∙ sym (drawn.coins j below) in
     shown_line-is shown program at
     ∙ ap line_of
-    (ap (λ records. shown_beside shown program records (records_of program [] (zero_coins program))) (records_alike passed program (shot_faults program at) (after_words (length program.faults) at) dont)
+    (shown_alike passed shown program (shot_faults program at) (after_words (length program.faults) at) dont
     ∙ (ap₂ (shown_of shown program) same_faults same_coins
     ∙ sym (runs j (omega (arith, few, below)))))

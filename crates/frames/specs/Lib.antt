@@ -1,6 +1,7 @@
 pub mod Pairs
 pub mod private
 pub mod Batches
+pub mod Carried
 pub mod LaneFrames
 pub mod LaneLetters
 pub mod Lines

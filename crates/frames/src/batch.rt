@@ -23,7 +23,7 @@ pub struct Batch<A: Allocator + Copy> {
 
 impl<A: Allocator + Copy> Model for Batch<A> {
     ghost use Rattle.std.specs.Prelude.{length};
-    ghost use Rattle.step_model.specs.Targets.{difference, target_at};
+    ghost use Rattle.step_model.specs.Targets.{difference};
     ghost use Rattle.frames.specs.Batches.{Followed};
 
     ghost Value = { Followed };
@@ -151,8 +151,11 @@ impl<A: Allocator + Copy> Batch<A> {
     }
 }
 
-// Memory for the frames of a program.
-fn start<A: Allocator + Copy>(alloc: A, program: &Program<'_, A>) -> Result<Frames<A>, AllocError>
+/// Memory for the frames of a program.
+pub(crate) fn start<A: Allocator + Copy>(
+    alloc: A,
+    program: &Program<'_, A>,
+) -> Result<Frames<A>, AllocError>
     ensures qubits { IfOk result (λ f. length f.letters ≡ program.now.listing.qubits) }
     ensures room { IfOk result (λ f. f.room ≡ program.now.listing.records) }
 {

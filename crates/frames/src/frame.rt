@@ -1,5 +1,4 @@
 ghost use Rattle.std.specs.Prelude.{◌≡◌, ◌<◌, [], ◌++◌, if◌then◌else◌, length, IfOk, OnOk, slice_index_or, slice_set, false};
-ghost use Rattle.std.specs.Option.{option_to_list};
 ghost use Rattle.pauli_word.specs.declared.letter.Letter.TheVariants.{I};
 ghost use Rattle.pauli_word.specs.Words.{anticommute, signed};
 ghost use Rattle.gate_table.specs.Images.{arity_of};
@@ -8,7 +7,6 @@ ghost use Rattle.programs.specs.Listed.{listed};
 ghost use Rattle.programs.specs.Named.{IsStepOf};
 ghost use Rattle.step_model.specs.Frames.{begun, carried};
 ghost use Rattle.step_model.specs.Listing.{word_of_terms};
-ghost use Rattle.step_model.specs.WellFormed.{TermsFit};
 ghost use Rattle.frames.specs.private.Flips.{fed_back, flip_of, recorded_flips};
 
 use crate::words::{anticommutes, multiply_at};

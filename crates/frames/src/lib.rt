@@ -3,13 +3,16 @@
 //! the outcome where that is random. `Batch` follows 64 runs (shots) side by side beside one reference run, by their
 //! frames, as in Stim's frame simulator. `write_shots` draws shots, follows them so, and writes each as its records, or as
 //! its detections, which say for each detector and observable whether it differs from that of the reference run.
+//! `write_detections` needs no reference run for these, where no detector and no observable is random.
 #![tactic(auto)]
 
+mod alone;
 mod batch;
 mod batches;
 mod carry;
 mod collapses;
 mod follow;
+mod follower;
 mod frame;
 mod frames;
 mod letters;
@@ -24,5 +27,5 @@ pub use batch::Batch;
 pub use carry::flips;
 pub use lines::digit;
 pub use pair::coin_pair;
-pub use shots::write_shots;
+pub use shots::{write_detections, write_shots};
 pub use side_runs::Shown;

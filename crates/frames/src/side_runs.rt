@@ -1,10 +1,10 @@
 //! Runs of a program, 64 side by side, of which the records or the detections are shown.
-ghost use Rattle.std.specs.Prelude.{◌≡◌, ◌+◌, ◌<◌, ℕ, false, length, slice_index, slice_index_or, IfOk, IfErr};
+ghost use Rattle.std.specs.Prelude.{◌≡◌, ◌<◌, ℕ, false, length, slice_index, slice_index_or};
 ghost use Rattle.bit_rows.specs.Lanes.{lane, lane_bit};
-ghost use Rattle.frames.specs.Batches.{IsBatchOf, shot_records};
-ghost use Rattle.frames.specs.private.ShownRuns.{shown_beside, shown_count, shown_of};
+ghost use Rattle.frames.specs.private.Followers.{Follows, Shows, shown_by};
+ghost use Rattle.frames.specs.private.ShownRuns.{shown_count, shown_of};
 
-use crate::batch::Batch;
+use crate::follower::Follower;
 use programs::Program;
 use std::alloc::Allocator;
 use std::marker::Model;
@@ -18,37 +18,38 @@ pub enum Shown {
     Detections,
 }
 
-/// Runs of a program, of which words have in their lanes what is shown. Each call of `run` runs them anew. The batch and the words
-/// are lent.
+/// Runs of a program, of which words have in their lanes what is shown. Each call of `run` runs them anew. What follows them and the
+/// words are lent.
 #[derive(Drop)]
 pub(crate) struct SideRuns<'b, 'p, A: Allocator + Copy> {
     program: &'b Program<'p, A>,
-    batch: &'b mut Batch<A>,
+    follower: &'b mut Follower<A>,
     shown: Shown,
     words: &'b mut [u64],
 }
 
 impl<'b, 'p, A: Allocator + Copy> Model for SideRuns<'b, 'p, A> {
     ghost use Rattle.std.specs.Prelude.{◌≡◌, length};
-    ghost use Rattle.frames.specs.Batches.{IsBatchOf};
+    ghost use Rattle.frames.specs.private.Followers.{Follows, Shows};
     ghost use Rattle.frames.specs.private.ShownRuns.{ShownRuns, shown_count};
 
     ghost Value = { ShownRuns };
 
     ghost view = { λ r. record { program = r.program.now.listing; shown = r.shown; words = r.words.now } };
 
-    ghost invariant = { λ r. IsBatchOf r.program.now.listing r.batch.now × (length r.words.now ≡ shown_count r.shown r.program.now.listing) };
+    ghost invariant = { λ r. Follows r.program.now.listing r.follower.now × Shows r.shown r.follower.now × (length r.words.now ≡ shown_count r.shown r.program.now.listing) };
 }
 
 impl<'b, 'p, A: Allocator + Copy> SideRuns<'b, 'p, A> {
-    /// Runs of a program, in a batch of it, with a word for each truth value that is shown.
+    /// Runs of a program, followed by what shows this of them, with a word for each truth value that is shown.
     pub(crate) fn new(
         program: &'b Program<'p, A>,
-        batch: &'b mut Batch<A>,
+        follower: &'b mut Follower<A>,
         shown: Shown,
         words: &'b mut [u64],
     ) -> Self
-        requires batch { IsBatchOf program.now.listing batch.now }
+        requires follows { Follows program.now.listing follower.now }
+        requires shows { Shows shown follower.now }
         requires words { length words.now ≡ shown_count shown program.now.listing }
         ensures program { result.program ≡ program.now.listing }
         ensures shown { result.shown ≡ shown }
@@ -56,7 +57,7 @@ impl<'b, 'p, A: Allocator + Copy> SideRuns<'b, 'p, A> {
     {
         SideRuns {
             program,
-            batch,
+            follower,
             shown,
             words,
         }
@@ -75,8 +76,8 @@ impl<'b, 'p, A: Allocator + Copy> SideRuns<'b, 'p, A> {
             ≡ shown_of self.old.shown self.old.program (lane j faults.now) (lane j coins.now) }
     {
         self.program.well_formed();
-        self.batch.follow(self.program, faults, coins);
-        fill(self.words, self.batch, self.program, self.shown);
+        self.follower.follow(self.program, faults, coins);
+        fill(self.words, self.follower, self.program, self.shown);
     }
 
     /// What is shown of the runs made last: a word for each truth value, whose bit j belongs to run j.
@@ -100,11 +101,12 @@ pub(crate) fn count<A: Allocator + Copy>(program: &Program<'_, A>, shown: Shown)
 /// What is shown of all runs, a word for each truth value.
 fn fill<A: Allocator + Copy>(
     words: &mut [u64],
-    batch: &Batch<A>,
+    follower: &Follower<A>,
     program: &Program<'_, A>,
     shown: Shown,
 )
-    requires records { length batch.now.reference.records ≡ program.now.listing.records }
+    requires follows { Follows program.now.listing follower.now }
+    requires shows { Shows shown follower.now }
     requires words { length words.old ≡ shown_count shown program.now.listing }
     ensures size { length words.new ≡ length words.old }
     ensures filled { (index : ℕ)
@@ -112,36 +114,9 @@ fn fill<A: Allocator + Copy>(
         → (j : ℕ)
         → j < 64
         → lane_bit j (slice_index words.new index)
-        ≡ slice_index_or
-        (shown_beside shown program.now.listing (shot_records j batch.now)
-        batch.now.reference.records)
-        index false }
+        ≡ slice_index_or (shown_by shown program.now.listing j follower.now) index false }
 {
     for index in 0..words.len() {
-        words[index] = word(batch, program, shown, index);
-    }
-}
-
-/// One truth value of all runs.
-#[inline(always)]
-fn word<A: Allocator + Copy>(
-    batch: &Batch<A>,
-    program: &Program<'_, A>,
-    shown: Shown,
-    index: usize,
-) -> u64
-    requires records { length batch.now.reference.records ≡ program.now.listing.records }
-    requires index { index < shown_count shown program.now.listing }
-    ensures { (j : ℕ)
-        → j < 64
-        → lane_bit j result
-        ≡ slice_index_or
-        (shown_beside shown program.now.listing (shot_records j batch.now)
-        batch.now.reference.records)
-        index false }
-{
-    match shown {
-        Shown::Records => batch.records_word(index),
-        Shown::Detections => batch.detections_word(program, index),
+        words[index] = follower.word(program, shown, index);
     }
 }

@@ -4,13 +4,12 @@ use Rattle.std.proofs.lemmas.List.{length-map}
 use Rattle.step_model.specs.Listing.{ListedFault, Listing}
 use Rattle.forward_sim.specs.Drawn.{bounds_of, after_shots}
 use Rattle.forward_sim.specs.Shots.{AreDrawn}
-use Rattle.frames.specs.Batches.{DontCount}
 use Rattle.bit_rows.specs.Lanes.{lane}
 use Rattle.step_model.specs.Pushed.{Pushes}
 use Rattle.frames.specs.private.LaneLines.{lane_lines}
 use Rattle.frames.specs.Sampled.{lines_from}
 use Rattle.frames.specs.Shown.{shown_line}
-use Rattle.frames.specs.private.ShownRuns.{shown_of}
+use Rattle.frames.specs.private.ShownRuns.{DontShow, shown_of}
 use Rattle.frames.proofs.TextLemmas.{batch_lines, drawn_line}
 use Rattle.frames.proofs.batches.push_batch.Goals as goal
 
@@ -63,7 +62,9 @@ returns g c =
       fit = record {
         bounds = c.draw.ensures.bounds ∙ (c.requires.fit.bounds ∙ ap bounds_of (sym c.run.ensures.program));
         coins = c.draw.ensures.drawn.coin_count ∙ (c.requires.fit.coins ∙ ap (λ (p : Listing). p.collapses) (sym c.run.ensures.program));
-        passed = subst₂ DontCount (sym c.run.ensures.program) (sym c.draw.ensures.passed) c.requires.fit.passed;
+        passed =
+            subst (λ kind. DontShow kind c.run.new.self.program c.draw.new.self.passed) (sym c.run.ensures.shown)
+            (subst₂ (DontShow shown) (sym c.run.ensures.program) (sym c.draw.ensures.passed) c.requires.fit.passed);
         line = c.push_lines.auto.room ∙ (c.requires.fit.line ∙ ap (λ n. 2 * n + 1) (sym c.run.ensures.size));
       };
     }

@@ -1,8 +1,7 @@
 -- Word by word.
 use Rattle.std.proofs.Common.{◌≡◌, ℕ, ◌<◌, false, get_or, length-set, refl, ◌∙◌, arith}
 use Rattle.bit_rows.specs.Lanes.{lane_bit}
-use Rattle.frames.specs.Batches.{shot_records}
-use Rattle.frames.specs.private.ShownRuns.{shown_beside}
+use Rattle.frames.specs.private.Followers.{shown_by}
 use Rattle.frames.proofs.ShownLemmas.{filled_more}
 use Rattle.frames.proofs.side_runs.fill.Goals as goal
 
@@ -12,17 +11,17 @@ loop-index-init g c = record { size = refl; filled = λ i below. absurd (omega a
 pub word-requires : goal.word-requires
 word-requires g c =
     record {
-      records = c.requires.records;
+      follows = c.requires.follows;
+      shows = c.requires.shows;
       index = omega (arith, c.loop-index.invariant.size, c.requires.words);
     }
 
 pub loop-index-preserved : goal.loop-index-preserved
 loop-index-preserved g c =
     let program = c.args.program.now.listing in
-    let batch = c.args.batch.now in
     record {
       size = length-set _ _ _ ∙ c.loop-index.invariant.size;
-      filled = filled_more (λ i w. (j : ℕ) → j < 64 → lane_bit j w ≡ get_or (shown_beside c.args.shown program (shot_records j batch) batch.reference.records) i false) c.loop-index.words c.loop-index.index c.word.result
+      filled = filled_more (λ i w. (j : ℕ) → j < 64 → lane_bit j w ≡ get_or (shown_by c.args.shown program j c.args.follower.now) i false) c.loop-index.words c.loop-index.index c.word.result
           (omega (arith, c.loop-index.invariant.size)) c.loop-index.invariant.filled c.word.ensures;
     }
 

@@ -1,19 +1,24 @@
 -- What is shown of the runs fills the words.
-use Rattle.std.proofs.Common.{◌≡◌, false, length, get_or, sym, ap, ap₂, ◌∙◌, arith}
+use Rattle.std.proofs.Common.{◌≡◌, false, length, get_or, sym, ap, ◌∙◌, arith}
 use Rattle.bit_rows.specs.Lanes.{lane}
-use Rattle.frames.specs.private.ShownRuns.{ShownRuns, shown_beside, shown_of}
+use Rattle.frames.specs.private.ShownRuns.{ShownRuns, shown_of}
 use Rattle.frames.proofs.ShownLemmas.{lane_shows, length-shown}
 use Rattle.frames.proofs.side_runs.SideRuns.run.Goals as goal
 
 pub fill-requires : goal.fill-requires
 fill-requires g c =
     record {
-      records = c.follow.ensures.batch.records;
-      words = c.self.invariant.1;
+      follows = c.follow.ensures.follows;
+      shows = c.follow.ensures.shows c.self.inside.shown c.self.invariant.1;
+      words = c.self.invariant.2;
     }
 
 pub invariant_of-self : goal.invariant_of-self
-invariant_of-self g c = (c.follow.ensures.batch, c.fill.ensures.size ∙ c.self.invariant.1)
+invariant_of-self g c = (
+  c.follow.ensures.follows,
+  c.follow.ensures.shows c.self.inside.shown c.self.invariant.1,
+  c.fill.ensures.size ∙ c.self.invariant.2,
+)
 
 pub returns-clause-size : goal.returns-clause-size
 returns-clause-size g c =
@@ -27,9 +32,9 @@ returns-clause-lanes g c j below =
     let faults = lane j c.args.faults.now in
     let coins = lane j c.args.coins.now in
     let size : length words ≡ length (shown_of shown program faults coins) =
-    c.fill.ensures.size ∙ (c.self.invariant.1 ∙ sym (length-shown shown program faults coins c.well_formed-2.ensures.listing)) in
+    c.fill.ensures.size ∙ (c.self.invariant.2 ∙ sym (length-shown shown program faults coins c.well_formed-2.ensures.listing)) in
     lane_shows j words (shown_of shown program faults coins) size
     (λ i within.
     c.fill.ensures.filled i (omega (arith, within, c.fill.ensures.size)) j below
-    ∙ ap₂ (λ first second. get_or (shown_beside shown program first second) i false) (c.follow.ensures.runs j) (c.follow.ensures.batch.reference.records))
+    ∙ ap (λ values. get_or values i false) (c.follow.ensures.runs shown c.self.invariant.1 j))
     ∙ ap (λ (s : ShownRuns). shown_of s.shown s.program faults coins) c.self.view_is

@@ -1,16 +1,19 @@
 use Rattle.std.proofs.Common.{length, ap, sym, subst, ◌∙◌}
 use Rattle.std.proofs.lemmas.List.{length-replicate}
-use Rattle.frames.specs.Batches.{DontCount}
 use Rattle.frames.specs.Sampled.{shots_text}
 use Rattle.frames.specs.Shown.{shown_line}
+use Rattle.frames.specs.private.ShownRuns.{DontShow}
 use Rattle.frames.proofs.Beginnings.{no_memory_there}
-use Rattle.frames.proofs.shots.write_beside.Goals as goal
+use Rattle.frames.proofs.shots.write_followed.Goals as goal
 
-pub coins_that_dont_count-requires : goal.coins_that_dont_count-requires
-coins_that_dont_count-requires g c = c.requires
+pub coins_that_dont_count-passed-requires : goal.coins_that_dont_count-passed-requires
+coins_that_dont_count-passed-requires g c = c.requires.follows
 
-pub write_drawn-requires-clause-batch : goal.write_drawn-requires-clause-batch
-write_drawn-requires-clause-batch g c = c.requires
+pub write_drawn-requires-clause-follows : goal.write_drawn-requires-clause-follows
+write_drawn-requires-clause-follows g c = c.requires.follows
+
+pub write_drawn-requires-clause-shows : goal.write_drawn-requires-clause-shows
+write_drawn-requires-clause-shows g c = c.requires.shows
 
 pub write_drawn-requires-clause-bounds : goal.write_drawn-requires-clause-bounds
 write_drawn-requires-clause-bounds g c = c.in_ok-drawn.ensures.bounds
@@ -20,7 +23,7 @@ write_drawn-requires-clause-coins g c = ap length c.in_ok-drawn.ensures.coins �
 
 pub write_drawn-requires-clause-passed : goal.write_drawn-requires-clause-passed
 write_drawn-requires-clause-passed g c =
-    subst (DontCount c.args.program.now.listing) (sym c.in_ok-drawn.ensures.passed) c.coins_that_dont_count.ensures.coins
+    subst (DontShow c.args.shown c.args.program.now.listing) (sym c.in_ok-drawn.ensures.passed) (c.coins_that_dont_count-passed.ensures.coins c.args.shown c.requires.shows)
 
 pub returns-in_err-drawn : goal.returns-in_err-drawn
 returns-in_err-drawn g c =

@@ -1,0 +1,36 @@
+ghost use Rattle.std.specs.Prelude.{◌≡◌, ℕ, length};
+ghost use Rattle.bit_rows.specs.Lanes.{lane};
+ghost use Rattle.frames.specs.Batches.{AreAtStart};
+ghost use Rattle.frames.specs.Carried.{carried_frame};
+ghost use Rattle.frames.specs.LaneFrames.{frame_in};
+
+use crate::frames::Frames;
+use crate::steps::{is_quiet, take_step};
+use programs::{Program, Walk};
+use std::alloc::Allocator;
+
+/// Takes the frames of 64 runs over all steps of a program, with no run beside them.
+pub(crate) fn carry_alone<A: Allocator + Copy>(
+    frames: &mut Frames<A>,
+    program: &Program<'_, A>,
+    faults: &[u64],
+)
+    requires qubits { length frames.old.letters ≡ program.now.listing.qubits }
+    requires room { frames.old.room ≡ program.now.listing.records }
+    requires start { AreAtStart frames.old }
+    ensures qubits { length frames.new.letters ≡ length frames.old.letters }
+    ensures room { frames.new.room ≡ frames.old.room }
+    ensures carried { (j : ℕ)
+        → frame_in j frames.new ≡ carried_frame program.now.listing (lane j faults.now) }
+{
+    program.well_formed();
+    let mut walk = Walk::start(program);
+    // whether all frames are I, as at the start
+    let mut still = true;
+    while let Some(step) = walk.next_step() {
+        if !is_quiet(faults, still, step) {
+            take_step(frames, program, faults, None, 0, step);
+            still = false;
+        }
+    }
+}
