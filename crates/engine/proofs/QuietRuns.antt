@@ -1,6 +1,7 @@
 -- A run in which no fault happens and each coin is 0 has the records of the reference run.
 use Rattle.std.proofs.Common.{◌≡◌, ℕ, zero, suc, ◌+◌, Bool, true, false, List, [], ◌∷◌, ◌++◌, length, replicate, length-append, Option, None, Some, refl, ap, ap₂, sym, ◌∙◌}
 use Rattle.std.specs.List.{list_any}
+use Rattle.std.specs.Prelude.{Ok}
 use Rattle.std.proofs.lemmas.List.{length-map}
 use Rattle.pauli_word.specs.Parity.{exclusive_or}
 use Rattle.pauli_word.specs.States.{applied}
@@ -10,7 +11,7 @@ use Rattle.step_model.specs.Listing.{Listing, ListedStep, One, Two, Collapse, Fa
 use Rattle.step_model.specs.Runs.{RunState, after_collapse, correction, flip_happens, happens, next, records_of, run_from, start}
 use Rattle.step_model.specs.Targets.{difference, differences, parities, parity, targets_of}
 use Rattle.frames.specs.Lines.{line_of}
-use Rattle.engine.specs.Output.{run_lines}
+use Rattle.engine.specs.Output.{done, program_output, run_lines}
 
 -- no value is true
 abbrev pub IsQuiet : List Bool → Type 0
@@ -55,11 +56,11 @@ same-records program (Collapse c r ∷ steps) (false ∷ coins) m quiet = same-r
 same-records program (Fault f ∷ steps) coins m quiet = same-records program steps coins (next program [] (Fault f) m) quiet
 same-records program (Feedback w r ∷ steps) coins m quiet = same-records program steps coins (next program [] (Feedback w r) m) quiet
 
-zeros-quiet : (count : ℕ) → IsQuiet (replicate count false)
+pub zeros-quiet : (count : ℕ) → IsQuiet (replicate count false)
 zeros-quiet zero = refl
 zeros-quiet (suc count) = zeros-quiet count
 
-quiet_records : (program : Listing) (faults coins : List Bool) → IsQuiet faults → IsQuiet coins → records_of program faults coins ≡ records_of program [] (zero_coins program)
+pub quiet_records : (program : Listing) (faults coins : List Bool) → IsQuiet faults → IsQuiet coins → records_of program faults coins ≡ records_of program [] (zero_coins program)
 quiet_records program faults coins no_fault no_coin =
     ap (λ (m : RunState). m.records) (same-run program faults program.steps (start coins) no_fault)
     ∙ same-records program program.steps coins (start []) no_coin
@@ -71,15 +72,28 @@ no_difference (true ∷ values) = ap (λ (rest : List Bool). false ∷ rest) (no
 no_difference (false ∷ values) = ap (λ (rest : List Bool). false ∷ rest) (no_difference values)
 
 -- no target differs between a run and itself
-pub no_events : (program : Listing) (records : List Bool)
+no_events : (program : Listing) (records : List Bool)
     → difference program records records ≡ replicate (length program.detectors + length program.observables) false
 no_events program records =
     no_difference (parities program records)
     ∙ ap (λ count. replicate count false) (length-map (targets_of program) (λ named. parity named records) ∙ length-append program.detectors program.observables)
 
--- so its lines are those of the reference run beside itself
-pub quiet_lines : (program : Listing) (faults coins reference : List Bool) → IsQuiet faults → IsQuiet coins → reference ≡ records_of program [] (zero_coins program)
-    → line_of reference ++ line_of (difference program reference reference) ≡ run_lines program faults coins
-quiet_lines program faults coins reference no_fault no_coin is =
-    ap₂ (λ records other. line_of records ++ line_of (difference program records other))
+-- so its lines are those of the reference run with no events
+pub quiet_lines : (program : Listing) (faults coins reference : List Bool) (targets : ℕ) → IsQuiet faults → IsQuiet coins → reference ≡ records_of program [] (zero_coins program) → targets ≡ length program.detectors + length program.observables
+    → line_of reference ++ line_of (replicate targets false) ≡ run_lines program faults coins
+quiet_lines program faults coins reference targets no_fault no_coin is count =
+    ap (λ (events : List Bool). line_of reference ++ line_of events) (ap (λ n. replicate n false) count ∙ sym (no_events program reference))
+    ∙ ap₂ (λ records other. line_of records ++ line_of (difference program records other))
     (is ∙ sym (quiet_records program faults coins no_fault no_coin)) is
+
+-- and where an order names neither coins nor faults it writes these
+pub unasked_output : (program : Listing) (coins : Option (List ℕ)) (faults lines : List ℕ) → coins ≡ None → faults ≡ [] → lines ≡ run_lines program [] (zero_coins program)
+    → program_output coins faults program ≡ Ok (done lines)
+unasked_output program None [] lines no_coins no_faults is =
+    let n : ℕ = length program.faults in
+    let nothing : List Bool = records_of program [] (zero_coins program) in
+    let none : run_lines program [] (zero_coins program) ≡ run_lines program (replicate n false) (zero_coins program) =
+    sym (quiet_lines program [] (zero_coins program) nothing _ refl (zeros-quiet program.collapses) refl refl) ∙ quiet_lines program (replicate n false) (zero_coins program) nothing _ (zeros-quiet n) (zeros-quiet program.collapses) refl refl in
+    ap (λ (text : List ℕ). Ok (done text)) (sym none ∙ sym is)
+unasked_output program (Some text) faults lines no_coins no_faults is = cc
+unasked_output program None (byte ∷ text) lines no_coins no_faults is = cc

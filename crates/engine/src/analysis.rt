@@ -88,7 +88,7 @@ fn write_random<W: Sink, A: Allocator + Copy>(
 }
 
 /// Words for the targets of a program, each the identity.
-fn fresh_words<'s, A: Allocator + Copy>(
+pub(crate) fn fresh_words<'s, A: Allocator + Copy>(
     alloc: &'s A,
     program: &Program<'_, A>,
 ) -> Result<QubitSets<'s, A>, Fault>

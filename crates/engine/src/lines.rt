@@ -1,5 +1,5 @@
 //! The lines of runs, of random targets, of predictions and of refusals. Each text is built in one block of memory.
-ghost use Rattle.std.specs.Prelude.{◌≡◌, ◌++◌, ◌<◌, ◌∷◌, ◌+◌, codes, length, IfOk, OnOk};
+ghost use Rattle.std.specs.Prelude.{◌≡◌, ◌++◌, ◌∷◌, ◌+◌, codes, IfOk, OnOk};
 ghost use Rattle.error_models.specs.ModelText.{target_text};
 ghost use Rattle.frames.specs.Lines.{line_of};
 ghost use Rattle.engine.specs.Output.{refusal_line};

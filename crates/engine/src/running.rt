@@ -7,7 +7,6 @@ ghost use Rattle.step_model.specs.declared.fault.Cause.TheVariants.{CoinCount};
 ghost use Rattle.step_model.specs.Faults.{memory_fault, without_line};
 ghost use Rattle.step_model.specs.Frames.{zero_coins};
 ghost use Rattle.step_model.specs.Runs.{records_of};
-ghost use Rattle.step_model.specs.Targets.{difference};
 ghost use Rattle.engine.specs.Output.{done, program_output, refused_or, run_coins, run_output};
 ghost use Rattle.engine.specs.Output as output;
 ghost use Rattle.engine.specs.private.Answered.{Answers};
@@ -52,6 +51,9 @@ fn run_text<A: Allocator + Copy>(
         ⊎ (run_output (option_copied coins.entry) faults.now text.now ≡ Err e)) }
 {
     let program = read_program(alloc, text)?;
+    if coins.is_none() && faults.is_empty() {
+        return noiseless_lines(alloc, program);
+    }
     run_program(alloc, &program, coins, faults)
 }
 
@@ -112,25 +114,39 @@ fn lines_of_run<A: Allocator + Copy>(
 {
     let reference = noiseless_records(alloc, program)?;
     if !has_true(faults) && !has_true(coins) {
-        return lines_without_events(alloc, program, &reference);
+        return lines_without_events(alloc, &reference, program.target_count());
     }
     let records = run(alloc, program, faults, coins)?;
     let detections = detections(alloc, program, &records, &reference)?;
     Ok(run_lines(alloc, &records, detections.as_slice())?)
 }
 
-/// The line of a run's records, and the line of no detections: the run is the one that it is compared with.
-fn lines_without_events<A: Allocator + Copy>(
+/// The lines of the run in which no fault happens and each coin is 0. The program is no longer held where they are made.
+fn noiseless_lines<A: Allocator + Copy>(
     alloc: A,
-    program: &Program<'_, A>,
-    records: &Records<A>,
+    program: Program<'_, A>,
 ) -> Result<Vec<u8, A>, Fault>
     ensures ok { IfOk result (λ lines. lines.items
-        ≡ line_of records.now
-        ++ line_of (difference program.now.listing records.now records.now)) }
+        ≡ output.run_lines program.entry.listing [] (zero_coins program.entry.listing)) }
     ensures err { IfErr result (λ e. e ≡ memory_fault) }
 {
-    let events = all_false(alloc, program.target_count())?;
+    let records = noiseless_records(alloc, &program)?;
+    let targets = program.target_count();
+    drop(program);
+    lines_without_events(alloc, &records, targets)
+}
+
+/// The line of a run's records, and the line of no detections of so many targets: the run is the one that it is compared with.
+fn lines_without_events<A: Allocator + Copy>(
+    alloc: A,
+    records: &Records<A>,
+    targets: usize,
+) -> Result<Vec<u8, A>, Fault>
+    ensures ok { IfOk result (λ lines. lines.items
+        ≡ line_of records.now ++ line_of (replicate targets false)) }
+    ensures err { IfErr result (λ e. e ≡ memory_fault) }
+{
+    let events = all_false(alloc, targets)?;
     Ok(run_lines(alloc, records, events.as_slice())?)
 }
 
@@ -150,6 +166,5 @@ fn noiseless_records<A: Allocator + Copy>(
     ensures count { IfOk result (λ records. length records ≡ program.now.listing.records) }
     ensures err { IfErr result (λ e. e ≡ memory_fault) }
 {
-    let coins = all_false(alloc, program.collapse_count() as usize)?;
-    run(alloc, program, &[], coins.as_slice())
+    run(alloc, program, &[], &[])
 }
