@@ -1,5 +1,5 @@
 //! The digits of numbers that mostly count up.
-ghost use Rattle.std.specs.Prelude.{◌≡◌, ◌<◌, ◌≤◌, ◌^◌, ◌+◌, ◌++◌, decimal, length, take};
+ghost use Rattle.std.specs.Prelude.{◌≡◌, ◌≤◌, ◌+◌, ◌++◌, decimal, length, take};
 ghost use Rattle.fault_list.specs.private.KeptTexts.{HasDigits};
 
 use crate::put::put_first;

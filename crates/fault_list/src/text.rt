@@ -41,10 +41,11 @@ pub fn write<'a, A: Allocator + Copy, W: Sink>(
 }
 
 /// How long a buffer for lines is.
-const ROOM: usize = 4096;
+const ROOM: usize = 20480;
 
-/// Where a short line begins in it at most.
-const LAST_LINE: usize = 3840;
+/// Where a short line begins in it at most: lines go out together once they are longer than what `Pieces` holds back, so
+/// that they aren't copied there.
+const LAST_LINE: usize = 20224;
 
 // What lines are made in: the buffer of short lines, and room for a long word.
 #[derive(Drop)]

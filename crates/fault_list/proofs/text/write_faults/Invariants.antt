@@ -11,7 +11,7 @@ abbrev pub invariant-loop-fault : goal.invariant-loop-fault
 invariant-loop-fault g l =
     record {
       program : l.walk.program ≡ l.program;
-      held : l.held ≤ 3840;
+      held : l.held ≤ 20224;
       texts : TellsChances l.program.kept l.desk.texts.probability;
       rest : (i : ℕ) × (i ≤ length l.program.listing.faults) × (faults_left l.walk ≡ range_with_len i (length l.program.listing.faults - i)) × PushesSome g.W.Sink.taken g.W.Sink.failures l.fn.sink l.sink l.fn.out l.out [] (take l.held l.desk.lines) (flat_map (fault_line l.program.listing) (range_with_len 0 i));
     }
