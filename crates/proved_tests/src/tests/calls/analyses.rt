@@ -1,6 +1,6 @@
 //! What the analysis of a circuit finds, by both trackers, part by part.
 use crate::tests::words::{dense_words, sparse_words};
-use backward::{Analysed, analyse};
+use backward::{Analysed, analyse, first_random};
 use error_models::Model;
 use programs::Program;
 use run_laws::constancy;
@@ -96,9 +96,21 @@ fn are_random(alloc: Global, program: &Program<'_, Global>) -> Result<bool, Faul
     Ok(is_random(&by_dense(alloc, program)?) && is_random(&by_sparse(&alloc, program)?))
 }
 
+/// Whether it is found where that alone is asked.
+fn is_found(alloc: Global, program: &Program<'_, Global>) -> Result<bool, Fault> {
+    match sparse_words(&alloc, program) {
+        Ok(words) => {
+            let random = first_random(alloc, program, words)?;
+            Ok(matches!(random, Some((1, Place::After(1)))))
+        }
+        Err(_) => Err(Fault::MEMORY),
+    }
+}
+
 #[test]
 fn places_of_a_random_target(rt: HostRuntime) -> Result<(), Fail> {
     let program = read_program(rt.alloc(), RANDOM)?;
     assert!(rt; are_random(rt.alloc(), &program)?);
+    assert!(rt; is_found(rt.alloc(), &program)?);
     Ok(())
 }
