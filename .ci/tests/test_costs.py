@@ -54,6 +54,12 @@ class Costs(ProgramTest):
         circuit = "M 0\nREPEAT 20000 {\n    OBSERVABLE_INCLUDE(5)" + " rec[-1]" * 1000 + "\n}\n"
         self.check_within(2, 200, ["run"], circuit, "0\n000000\n")
 
+    def test_detectors_of_a_product_of_4096_letters(self):
+        """A million detectors that see 4,096 qubits each: whether one is random is found without their words."""
+        product = "*".join(f"Z{k}" for k in range(4096))
+        circuit = f"MPP {product}\nREPEAT 1000000 {{\n    DETECTOR rec[-1]\n}}\n"
+        self.check_within(2, 100, ["detect", "--shots", "1"], circuit, "0" * 1_000_000 + "\n")
+
     def test_products_whose_outcomes_are_random(self):
         """400,000 products of 15 letters, of which each replaces a word that comes again."""
         pairs = "".join(f"MPP {'*'.join(f'{letter}{k}' for k in range(15))}\n" for letter in "XZ")

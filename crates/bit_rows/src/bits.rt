@@ -1,5 +1,5 @@
 // The bit at a place of a list of words of 64 bits.
-ghost use Rattle.std.specs.Prelude.{◌≡◌, ◌==◌, ◌↔◌, ℕ, ◌+◌, ◌*◌, ◌/◌, ◌^◌, ◌<◌, ◌≤◌, Bool, true, false, not, if◌then◌else◌, length, IsTrue, IfSome, IfNone};
+ghost use Rattle.std.specs.Prelude.{◌≡◌, ◌==◌, ◌↔◌, ℕ, ◌*◌, ◌/◌, ◌^◌, ◌<◌, ◌≤◌, true, false, not, if◌then◌else◌, length, IsTrue, IfSome, IfNone};
 ghost use Rattle.bit_rows.specs.private.Words.{bit_in};
 
 #[inline(always)]

@@ -6,3 +6,4 @@ pub mod QuietRuns
 pub mod ServedLemmas
 pub mod ServingLemmas
 pub mod RefusedLemmas
+pub mod UntargetedRuns

@@ -1,13 +1,16 @@
 //! Shots of a circuit.
-ghost use Rattle.std.specs.Prelude.{◌≡◌, IfOk, IfErr, IsTrue};
+ghost use Rattle.std.specs.Prelude.{◌≡◌, ◌⊎◌, Err, IfOk, IfErr, IsTrue};
 ghost use Rattle.backward.specs.Places.{NoneIsRandom};
 ghost use Rattle.engine.specs.Output.{program_shots, refused_or, shots_output};
 ghost use Rattle.engine.specs.private.Answered.{Answers};
+ghost use Rattle.engine.specs.private.Drawn.{DrawsAs};
 ghost use Rattle.frames.specs.Shown.{shown_line};
 ghost use Rattle.frames.specs.declared.side_runs.Shown.TheVariants.{Detections};
 ghost use Rattle.step_model.specs.Faults.{memory_fault};
+ghost use Rattle.unroll.specs.Programs.{program_in};
 
 use crate::analysis::fresh_words;
+use crate::limited::Limited;
 use crate::order::Status;
 use crate::refusing::refuse;
 use backward::first_random;
@@ -15,16 +18,10 @@ use frames::Shown;
 use programs::{Program, Walk};
 use std::alloc::Allocator;
 use step_model::{Cause, Fault, Sink};
-use unroll::read_program;
+use unroll::{Untargeted, read_program, read_untargeted};
 
 /// How many shots an order may ask for.
 const MOST_SHOTS: u64 = 1_000_000;
-
-/// Few targets are asked at once whether one is random; more where there are no more steps a target than these, faults not
-/// counted.
-const FEW_TARGETS: usize = 64;
-
-const MOST_STEPS: usize = 64;
 
 const TOO_MANY: Fault = Fault {
     cause: Cause::Shots,
@@ -43,9 +40,32 @@ pub(crate) fn answer_shots<W: Sink, A: Allocator + Copy>(
     ensures { Answers W.taken W.failures sink.old sink.new
         (refused_or (shots_output (shown_line shown) shots seed text.now)) result }
 {
-    match read_program(alloc, text) {
+    match read_drawn(alloc, shown, text) {
         Ok(program) => write_shots(alloc, &program, shown, shots, seed, sink),
         Err(fault) => refuse(alloc, fault, sink),
+    }
+}
+
+/// A program whose shots show the same of it as those of the text's program, or why that is refused. What targets list isn't read
+/// where records are shown.
+fn read_drawn<'a, A: Allocator + Copy>(
+    alloc: A,
+    shown: Shown,
+    text: &'a [u8],
+) -> Result<Program<'a, A>, Fault>
+    ensures ok { IfOk result (λ program. DrawsAs (shown_line shown) (program_in text.now)
+        program.listing) }
+    ensures err { IfErr result (λ e. (e ≡ memory_fault) ⊎ (program_in text.now ≡ Err e)) }
+{
+    match shown {
+        Shown::Records => {
+            let Untargeted {
+                program,
+                targets: _,
+            } = read_untargeted(alloc, text)?;
+            Ok(program)
+        }
+        Shown::Detections => read_program(alloc, text),
     }
 }
 
@@ -89,23 +109,13 @@ fn goes_alone<A: Allocator + Copy>(
     }
 }
 
-/// Whether no target is random, where that is soon known.
+/// Whether no target is random, where few letters show it.
 fn none_is_random<A: Allocator + Copy>(alloc: A, program: &Program<'_, A>) -> Result<bool, Fault>
     ensures ok { IfOk result (λ none. IsTrue none → NoneIsRandom program.now.listing) }
     ensures err { IfErr result (λ e. e ≡ memory_fault) }
 {
-    if !is_soon_known(program) {
-        return Ok(false);
-    }
-    let words = fresh_words(&alloc, program)?;
-    Ok(first_random(alloc, program, words)?.is_none())
-}
-
-/// Whether the words of targets are few, or likely to be short on most of the way back, as where each detector compares what was
-/// measured shortly before. It takes longer to go back with many long words than to make a reference run.
-fn is_soon_known<A: Allocator + Copy>(program: &Program<'_, A>) -> bool {
-    let targets = program.target_count();
     let faults = program.fault_count() as usize;
     let steps = Walk::end(program).place().saturating_sub(faults);
-    targets <= FEW_TARGETS || steps / MOST_STEPS <= targets
+    let words = Limited::new(fresh_words(&alloc, program)?, steps);
+    Ok(matches!(first_random(alloc, program, words), Ok(None)))
 }

@@ -4,6 +4,7 @@
 mod analysis;
 mod answering;
 mod drawing;
+mod limited;
 mod lines;
 mod listing;
 mod order;

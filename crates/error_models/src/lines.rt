@@ -1,6 +1,6 @@
 //! Error lines, kept flat.
-ghost use Rattle.std.specs.Prelude.{◌≡◌, ◌<◌, ◌≤◌, ◌^◌, ◌++◌, ◌∷◌, [], true, length, IfOk, IfSome, OnOk, OnErr, slice_index_or};
-ghost use Rattle.error_models.specs.ErrorLines.{no_line, text_at, KeepsTexts};
+ghost use Rattle.std.specs.Prelude.{◌≡◌, ◌<◌, ◌^◌, ◌++◌, ◌∷◌, [], length, OnOk, OnErr, slice_index_or};
+ghost use Rattle.error_models.specs.ErrorLines.{no_line};
 
 use crate::line_text::LineText;
 use crate::texts::number_of;

@@ -1,5 +1,5 @@
 //! The text of error lines that are found from the last to the first.
-ghost use Rattle.std.specs.Prelude.{◌≡◌, ◌<◌, ◌≤◌, ◌+◌, ◌-◌, ◌++◌, [], All, length, min, reverse, IfOk, OnOk};
+ghost use Rattle.std.specs.Prelude.{◌≡◌, ◌<◌, ◌≤◌, ◌+◌, ◌++◌, [], All, length, min, reverse, IfOk, OnOk};
 ghost use Rattle.error_models.specs.ErrorLines.{text_at, KeepsTexts};
 ghost use Rattle.error_models.specs.HeldText.{EndsIn, most_named};
 ghost use Rattle.error_models.specs.ModelText.{line_text, targets_text};

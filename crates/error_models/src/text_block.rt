@@ -1,5 +1,5 @@
 //! A block of text that is filled from its end.
-ghost use Rattle.std.specs.Prelude.{◌≡◌, ◌<◌, ◌≤◌, ◌+◌, ◌*◌, ◌++◌, [], All, length, IfOk};
+ghost use Rattle.std.specs.Prelude.{◌≡◌, ◌<◌, ◌≤◌, ◌+◌, ◌*◌, ◌++◌, All, length, IfOk};
 ghost use Rattle.error_models.specs.HeldText.{no_text};
 ghost use Rattle.error_models.specs.ModelText.{line_text, targets_text};
 ghost use Rattle.error_models.specs.private.TargetNames.{reversed_where};

@@ -22,7 +22,7 @@ pub(crate) struct LastWord<A: Allocator + Copy> {
 }
 
 impl<A: Allocator + Copy> Model for LastWord<A> {
-    ghost use Rattle.std.specs.Prelude.{◌≡◌, ◌<◌, ◌≤◌, ◌+◌, ◌*◌, length, take};
+    ghost use Rattle.std.specs.Prelude.{◌≡◌, ◌≤◌, ◌+◌, ◌*◌, length, take};
     ghost use Rattle.std.below.core.specs.declared.int.u16.TheConstants.{MAX};
     ghost use Rattle.forward_sim.specs.private.Kept.{WordRead, terms_listed};
 

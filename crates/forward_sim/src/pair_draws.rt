@@ -1,5 +1,5 @@
 // Shots drawn into two lanes at once, each by a generator of its own.
-ghost use Rattle.std.specs.Prelude.{◌≡◌, ◌≢◌, ℕ, ◌+◌, ◌-◌, ◌<◌, ◌≤◌, [], ◌∷◌, length, slice_index};
+ghost use Rattle.std.specs.Prelude.{◌≡◌, ◌≢◌, ℕ, ◌+◌, ◌-◌, ◌<◌, ◌≤◌, [], ◌∷◌, length};
 ghost use Rattle.forward_sim.specs.private.BoundRuns.{IsGreatestBelow, bounds_above, bounds_in, bounds_of_run};
 ghost use Rattle.forward_sim.specs.Drawn.{after_words};
 ghost use Rattle.forward_sim.specs.private.LaneDraws.{HasRoom, coin_hits, fault_hits, toss_hits};

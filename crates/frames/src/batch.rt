@@ -23,7 +23,6 @@ pub struct Batch<A: Allocator + Copy> {
 
 impl<A: Allocator + Copy> Model for Batch<A> {
     ghost use Rattle.std.specs.Prelude.{length};
-    ghost use Rattle.step_model.specs.Targets.{difference};
     ghost use Rattle.frames.specs.Batches.{Followed};
 
     ghost Value = { Followed };

@@ -1,4 +1,4 @@
-ghost use Rattle.std.specs.Prelude.{◌≡◌, ◌↔◌, ◌<◌, ◌≤◌, length, false, slice_set, not, IfOk, IsTrue};
+ghost use Rattle.std.specs.Prelude.{◌≡◌, ◌↔◌, ◌<◌, ◌≤◌, length, slice_set, not, IfOk, IsTrue};
 ghost use Rattle.pauli_word.specs.declared.letter.Letter.TheVariants.{Z};
 ghost use Rattle.pauli_word.specs.Letters.{is_minus, letters_clash};
 ghost use Rattle.pauli_word.specs.Words.{letter_at, anticommute, letters_power, product, lowest_X_or_Y};

@@ -1,4 +1,4 @@
-ghost use Rattle.std.specs.Prelude.{◌≡◌, true, false, ℕ, List, length, None, Some, IfSome};
+ghost use Rattle.std.specs.Prelude.{◌≡◌, true, false, List, length, None, Some, IfSome};
 ghost use Rattle.programs.specs.declared.kept_node.BlockSize.{BlockSize};
 ghost use Rattle.programs.specs.declared.node.Node.TheVariants.{Do};
 ghost use Rattle.programs.specs.declared.step.TextStep.TheVariants.{Collapse, CollapseWord, Fault};

@@ -1,6 +1,6 @@
 ghost use Rattle.std.specs.Prelude.{◌≡◌, ◌<◌, ◌+◌, [], length, slice_index_or};
 ghost use Rattle.std.specs.List.{All};
-ghost use Rattle.programs.specs.Kept.{none_kept, kept_at};
+ghost use Rattle.programs.specs.Kept.{kept_at};
 ghost use Rattle.step_model.specs.Targets.{target_at};
 ghost use Rattle.step_model.specs.WellFormed.{IsWellFormed};
 ghost use Rattle.programs.specs.Kept.{IsWellKept};

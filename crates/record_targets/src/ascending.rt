@@ -1,5 +1,5 @@
 //! Lists of targets that stand for sets.
-ghost use Rattle.std.specs.Prelude.{◌≡◌, ◌<◌, ◌≤◌, ℕ, true, length, slice_index_or, take, All};
+ghost use Rattle.std.specs.Prelude.{◌≡◌, ◌<◌, ◌≤◌, ℕ, true, length, take, All};
 ghost use Rattle.std.specs.List.Sorted.{IsNonDecreasing, IsStrictlyIncreasing};
 ghost use Rattle.step_model.specs.Targets.{is_listed};
 ghost use Rattle.step_model.specs.TargetSets.{members, row_of_set};

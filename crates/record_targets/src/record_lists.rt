@@ -1,5 +1,5 @@
 //! For each record the targets that feedback changes, as linked lists: most records have none or few.
-ghost use Rattle.std.specs.Prelude.{◌≡◌, ◌<◌, ◌≤◌, ◌+◌, ◌-◌, ◌∷◌, ℕ, [], true, false, length, replicate, slice_index_or, slice_set, All, IfOk, OnErr, OnOk};
+ghost use Rattle.std.specs.Prelude.{◌≡◌, ◌<◌, ◌≤◌, ◌∷◌, ℕ, [], true, false, length, replicate, slice_index_or, slice_set, All, IfOk, OnErr, OnOk};
 ghost use Rattle.record_targets.specs.private.Apart.{toggled_at};
 ghost use Rattle.record_targets.specs.private.Links.{list_at, rows_at, LeadBack, AreLists, IsGrown, IsPutAt};
 ghost use Rattle.record_targets.specs.private.RecordSets.{opened_sets, AreAsLong};

@@ -1,6 +1,6 @@
-ghost use Rattle.std.specs.Prelude.{◌≡◌, ◌+◌, ◌<◌, ◌==◌, ◌∷◌, length, not, position, true, false};
+ghost use Rattle.std.specs.Prelude.{◌≡◌, ◌+◌, ◌<◌, ◌==◌, length, not, position, true, false};
 ghost use Rattle.std.specs.List.{list_any, list_all, before_first, after_first, position_or_len};
-ghost use Rattle.stim_lexer.specs.Bytes.{is_blank, is_bad_byte, is_brace, ends_name, from_first, after_blanks, begins_with};
+ghost use Rattle.stim_lexer.specs.Bytes.{is_blank, is_bad_byte, is_brace, ends_name, from_first, after_blanks};
 ghost use Rattle.stim_lexer.specs.Cut.{in_brackets, after_brackets, leaves_open};
 ghost use Rattle.stim_lexer.specs.FirstLines.{IsFirstLine};
 ghost use Rattle.stim_lexer.specs.private.Special.{is_special};

@@ -1,6 +1,5 @@
-ghost use Rattle.std.specs.Prelude.{◌≡◌, ◌<◌, ◌≤◌, ◌++◌, [], ◌∷◌, length, map, option_map, slice_get, is_some, MatchOption, IfSome};
+ghost use Rattle.std.specs.Prelude.{◌≡◌, ◌<◌, ◌∷◌, length, map, option_map, slice_get, is_some, MatchOption, IfSome};
 ghost use Rattle.std.specs.List.{slice_split};
-ghost use Rattle.stim_lexer.specs.Bytes.{is_blank};
 ghost use Rattle.stim_parser.specs.Arguments.{arguments_in, before_blanks, is_comma, parts_of, trimmed};
 
 use arrayvec::ArrayVec;

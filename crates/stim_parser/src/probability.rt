@@ -1,4 +1,4 @@
-ghost use Rattle.std.specs.Prelude.{◌≡◌, ◌+◌, ◌<◌, ◌≤◌, ◌^◌, IfSome, length};
+ghost use Rattle.std.specs.Prelude.{◌≡◌, ◌≤◌, ◌^◌, IfSome};
 ghost use Rattle.step_model.specs.Probabilities.{decimal_bound, probability_bound, scaled_bound};
 ghost use Rattle.stim_parser.specs.private.Decimals.{decimal_in, IsOfText};
 ghost use Rattle.stim_parser.specs.private.Significant.{more_digits, nothing_read, IsWithin};

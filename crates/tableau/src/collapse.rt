@@ -1,9 +1,9 @@
 //! The collapse of a word, which is the projective measurement inside a measurement or a reset. Where the word's code has
 //! only I and Z the outcome is its sign; otherwise the outcome is the coin, and all rows are turned.
-ghost use Rattle.std.specs.Prelude.{◌≡◌, ◌<◌, ℕ, length, true, All, slice_set};
+ghost use Rattle.std.specs.Prelude.{◌≡◌, ◌<◌, ℕ, length, All, slice_set};
 ghost use Rattle.gate_table.specs.Images.{arity_of};
 ghost use Rattle.gate_table.specs.WordImages.{image_at};
-ghost use Rattle.pauli_word.specs.declared.letter.Letter.TheVariants.{I, Z};
+ghost use Rattle.pauli_word.specs.declared.letter.Letter.TheVariants.{Z};
 ghost use Rattle.pauli_word.specs.Letters.{letters_clash};
 ghost use Rattle.pauli_word.specs.Parity.{exclusive_or};
 ghost use Rattle.pauli_word.specs.Words.{anticommute, letter_at, with_sign_changed, lowest_X_or_Y};

@@ -1,5 +1,5 @@
 //! The pair of words that X and Z at one qubit become under the inverse circuit, and the words of other letters there.
-ghost use Rattle.std.specs.Prelude.{◌≡◌, ◌<◌, ℕ, length, true, false, IfOk};
+ghost use Rattle.std.specs.Prelude.{◌≡◌, ◌<◌, ℕ, length, false, IfOk};
 ghost use Rattle.pauli_word.specs.declared.letter.Letter.TheVariants.{Y};
 ghost use Rattle.pauli_word.specs.Words.{anticommute, product, with_sign_changed};
 ghost use Rattle.pauli_word.specs.Groups.{identity_word};

@@ -1,5 +1,5 @@
 //! Descending lists: changed where they stand, merged, and listed in ascending order.
-ghost use Rattle.std.specs.Prelude.{◌≡◌, ◌<◌, ◌≤◌, ◌+◌, ◌-◌, ◌++◌, [], ℕ, take, true, insert, length, remove, reverse, slice_index, IfSome, OnOk, OnErr};
+ghost use Rattle.std.specs.Prelude.{◌≡◌, ◌<◌, ◌≤◌, ◌+◌, ◌-◌, ◌++◌, [], ℕ, take, true, length, reverse, slice_index, IfSome, OnOk, OnErr};
 ghost use Rattle.trackers.specs.private.Sets.{xor_sets, DescendsBelow, IsToggled};
 
 use smallvec::SmallVec;

@@ -1,6 +1,5 @@
 //! Sets of targets, in which tracked words are kept.
-ghost use Rattle.std.specs.Prelude.{◌≡◌, ◌<◌, ◌≤◌, ◌^◌, false, true, not, length, filter, replicate, reverse, take, All, IfOk, IfSome, OnOk, List, Bool, slice_index_or, slice_set};
-ghost use Rattle.std.specs.List.{range_with_len};
+ghost use Rattle.std.specs.Prelude.{◌≡◌, ◌<◌, ◌≤◌, ◌^◌, false, not, length, replicate, reverse, take, All, IfOk, IfSome, OnOk, List, Bool, slice_index_or, slice_set};
 ghost use Rattle.bit_rows.specs.Rows.{xor_rows};
 ghost use Rattle.step_model.specs.TargetSets.{members, row_of_set};
 ghost use Rattle.trackers.specs.private.Transposed.{xor_where, AreAsLong};

@@ -1,6 +1,5 @@
 ghost use Rattle.std.specs.Prelude.{◌≡◌, ◌<◌, ◌≤◌, ◌^◌, false, IfOk, OnOk, replicate};
 ghost use Rattle.gate_table.specs.Images.{arity_of};
-ghost use Rattle.gate_table.specs.declared.gate.Gate.TheVariants.{CX, H};
 ghost use Rattle.pauli_word.specs.declared.letter.Letter.TheVariants.{I};
 ghost use Rattle.trackers.specs.Tracked.{each_word, fresh, undone_one, undone_two};
 ghost use Rattle.trackers.specs.private.Transposed.{ArePlaces, combined, exchanged_at, multiplied_at};

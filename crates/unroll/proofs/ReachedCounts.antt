@@ -79,6 +79,9 @@ observables-over (i ∷ is) h =
     let parts = not_first (nat_lt most_observables n) i.line (first_observable_beyond is) h in
     omega (arith, ltb-false most_observables n parts.0, observables-over is parts.1)
 
+pub observables_counted : (t : Tree) → length (observables_of t) ≡ observable_total t
+observables_counted t = length-map-range_with_len (λ k. added_from k 0 (reached t)) 0 (observable_total t)
+
 pub observables_few : (t : Tree) → first_observable_beyond (instructions_of t) ≡ None → length (observables_of t) ≤ 1024
 observables_few t h =
-    omega (arith, length-map-range_with_len (λ k. added_from k 0 (reached t)) 0 (observable_total t), observables-over (instructions_of t) h)
+    omega (arith, observables_counted t, observables-over (instructions_of t) h)

@@ -1,9 +1,8 @@
 -- The program of a text is that of the tree that it writes.
-use Rattle.std.proofs.Common.{◌≡◌, ◌⊎◌, inl, inr, ℕ, List, Result, Ok, Err, ap, ◌∙◌}
-use Rattle.std.specs.Prelude.{IfOk, IfErr}
+use Rattle.std.proofs.Common.{◌≡◌, ℕ, List, Result, Err, ap, subst, sym, ◌∙◌}
 use Rattle.step_model.specs.declared.fault.Fault.{Fault}
-use Rattle.step_model.specs.Faults.{memory_fault, ◌>>=◌}
-use Rattle.programs.specs.Kept.{KeptProgram}
+use Rattle.step_model.specs.Faults.{◌>>=◌}
+use Rattle.step_model.specs.Listing.{Listing}
 use Rattle.stim_lexer.specs.Flat.{tree_of}
 use Rattle.stim_lexer.specs.Stored.{tree_of-items}
 use Rattle.stim_parser.specs.Trees.{Tree}
@@ -17,12 +16,6 @@ program_of_text text tree written =
 pub refusal_of_text : (text : List ℕ) (fault : Fault) → IsRefusedBy text fault → program_in text ≡ Err fault
 refusal_of_text text fault refused = ap (λ r. r >>= (λ items. program_of (tree_of items))) refused
 
--- what is read of a tree is read of its text
-pub read-ok : (text : List ℕ) (tree : Tree) (r : Result KeptProgram Fault) → Writes text tree → IfOk r (λ program. program_of tree ≡ Ok program.listing) → IfOk r (λ program. program_in text ≡ Ok program.listing)
-read-ok text tree (Ok program) written h = program_of_text text tree written ∙ h
-read-ok text tree (Err fault) written h = tt
-
-pub read-err : (text : List ℕ) (tree : Tree) (r : Result KeptProgram Fault) → Writes text tree → IfErr r (λ fault. (fault ≡ memory_fault) ⊎ (program_of tree ≡ Err fault)) → IfErr r (λ fault. (fault ≡ memory_fault) ⊎ (program_in text ≡ Err fault))
-read-err text tree (Ok program) written h = tt
-read-err text tree (Err fault) written (inl memory) = inl memory
-read-err text tree (Err fault) written (inr h) = inr (program_of_text text tree written ∙ h)
+-- what holds of what a tree gives holds of what its text gives
+pub as_written : (text : List ℕ) (tree : Tree) (holds : Result Listing Fault → Type 0) → Writes text tree → holds (program_of tree) → holds (program_in text)
+as_written text tree holds written h = subst holds (sym (program_of_text text tree written)) h

@@ -1,11 +1,10 @@
-ghost use Rattle.std.specs.Prelude.{◌≡◌, ◌⊎◌, None, Ok, Err, IfOk, IfErr};
+ghost use Rattle.std.specs.Prelude.{◌≡◌, ◌⊎◌, None, Some, Ok, Err, IfOk, IfErr};
 ghost use Rattle.step_model.specs.Faults.{memory_fault};
-ghost use Rattle.programs.specs.Made.{kept_program, PartsFit};
-ghost use Rattle.unroll.specs.private.Assembled.{ArePartsOf, HasLists};
+ghost use Rattle.unroll.specs.private.Assembled.{ArePartsOf, HasLists, HasNoLists, IsAccepted};
 ghost use Rattle.unroll.specs.private.Counted.{refusal_counted};
 ghost use Rattle.unroll.specs.private.Summed.{AreTotals};
-ghost use Rattle.unroll.specs.Meaning.{listing_of};
-ghost use Rattle.unroll.specs.Programs.{program_of};
+ghost use Rattle.unroll.specs.Programs.{program_of, LacksTargets};
+ghost use Rattle.unroll.specs.Refusals.{circuit_refusal};
 
 use crate::coordinates::coordinates_of;
 use crate::detectors::detectors_of;
@@ -49,18 +48,29 @@ fn lists_of<A: Allocator + Copy>(
     })
 }
 
-/// The parts of the program of a circuit that has one.
+/// No targets.
+fn no_lists<A: Allocator + Copy>(alloc: A) -> Lists<A>
+    ensures { HasNoLists result }
+{
+    Lists {
+        detectors: FlatLists::new(alloc),
+        observables: FlatLists::new(alloc),
+        coordinates: NumberLists::new(alloc),
+    }
+}
+
+/// The parts of the program of a circuit that has one, with these targets.
 fn parts_of<'a, A: Allocator + Copy>(
     alloc: A,
     circuit: Circuit<'a, A>,
-    totals: Totals,
+    totals: &Totals,
+    lists: Lists<A>,
 ) -> Result<Parts<'a, A>, AllocError>
     requires accepted { refusal_counted circuit ≡ None }
-    requires totals { AreTotals circuit totals }
-    ensures { IfOk result (ArePartsOf circuit.entry) }
+    requires totals { AreTotals circuit totals.now }
+    ensures { IfOk result (ArePartsOf circuit.entry lists) }
 {
     circuit.fits();
-    let lists = lists_of(alloc, &circuit, &totals)?;
     let written = written_of(alloc, circuit)?;
     Ok(Parts {
         qubits: totals.qubits,
@@ -79,6 +89,19 @@ fn parts_of<'a, A: Allocator + Copy>(
     })
 }
 
+/// The totals of a circuit, or why it has no program.
+fn accepted_totals<A: Allocator + Copy>(circuit: &Circuit<'_, A>) -> Result<Totals, Fault>
+    ensures ok { IfOk result (IsAccepted circuit.now) }
+    ensures err { IfErr result (λ fault. circuit_refusal circuit.now ≡ Some fault) }
+{
+    circuit.fits();
+    let totals = totals_of(circuit);
+    match refusal_of(circuit, &totals) {
+        Some(fault) => Err(fault),
+        None => Ok(totals),
+    }
+}
+
 /// The program of a circuit, or why it has none. Time and memory grow with the text and with what detectors and
 /// observables list once blocks are unrolled; otherwise they don't grow with the turns of blocks.
 pub fn unroll<'a, A: Allocator + Copy>(
@@ -89,11 +112,33 @@ pub fn unroll<'a, A: Allocator + Copy>(
     ensures err { IfErr result (λ fault. (fault ≡ memory_fault)
         ⊎ (program_of circuit.entry ≡ Err fault)) }
 {
-    circuit.fits();
-    let totals = totals_of(&circuit);
-    if let Some(fault) = refusal_of(&circuit, &totals) {
-        return Err(fault);
-    }
-    let parts = parts_of(alloc, circuit, totals)?;
+    let totals = accepted_totals(&circuit)?;
+    let lists = lists_of(alloc, &circuit, &totals)?;
+    let parts = parts_of(alloc, circuit, &totals, lists)?;
     Ok(Program::new(parts))
+}
+
+/// A program without its detectors and observables, and how many it has of them.
+#[derive(Drop)]
+pub struct Untargeted<'a, A: Allocator + Copy> {
+    pub program: Program<'a, A>,
+    pub targets: usize,
+}
+
+/// The same without detectors and observables, for who needs only their number. Time and memory grow with the text alone.
+pub fn unroll_untargeted<'a, A: Allocator + Copy>(
+    alloc: A,
+    circuit: Circuit<'a, A>,
+) -> Result<Untargeted<'a, A>, Fault>
+    ensures ok { IfOk result (λ made. LacksTargets (program_of circuit.entry)
+        made.program.listing made.targets) }
+    ensures err { IfErr result (λ fault. (fault ≡ memory_fault)
+        ⊎ (program_of circuit.entry ≡ Err fault)) }
+{
+    let totals = accepted_totals(&circuit)?;
+    let parts = parts_of(alloc, circuit, &totals, no_lists(alloc))?;
+    Ok(Untargeted {
+        program: Program::new(parts),
+        targets: totals.detectors as usize + totals.observables as usize,
+    })
 }

@@ -1,11 +1,11 @@
 ghost use Rattle.std.specs.Prelude.{◌≡◌, ◌*◌, ◌<◌, ◌≤◌, ◌^◌, ◌++◌, [], All, None, length, replicate, slice_range, OnOk};
 ghost use Rattle.stim_parser.specs.Kept.{instruction_in, list_in};
-ghost use Rattle.unroll.specs.TargetsMade.{record_named, records_named};
+ghost use Rattle.unroll.specs.TargetsMade.{records_named};
 ghost use Rattle.unroll.specs.Totals.{observable_total};
 ghost use Rattle.unroll.specs.private.Including.{CanMove, HaveTurned, IsOpen, notes_of, records_in, with_closed, with_included, with_more, with_moved, with_noted, with_turned};
 ghost use Rattle.unroll.specs.private.Observables.{observables_of};
 ghost use Rattle.unroll.specs.private.Counted.{first_far_from};
-ghost use Rattle.unroll.specs.private.MadeTotals.{record_count, record_total};
+ghost use Rattle.unroll.specs.private.MadeTotals.{record_total};
 
 use crate::counts::{records_behind, records_made};
 use crate::detectors::record_named;

@@ -21,6 +21,6 @@ mod targets;
 mod totals;
 mod writing;
 
-pub use assembly::unroll;
+pub use assembly::{Untargeted, unroll, unroll_untargeted};
 pub use programs::{Program, Walk};
-pub use reading::read_program;
+pub use reading::{read_program, read_untargeted};

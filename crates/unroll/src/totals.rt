@@ -1,4 +1,4 @@
-ghost use Rattle.std.specs.Prelude.{◌≡◌, ◌<◌, Some, IsSome, ◌↔◌};
+ghost use Rattle.std.specs.Prelude.{◌≡◌};
 ghost use Rattle.arrayvec.specs.ArrayVec.{array_vec_len};
 ghost use Rattle.stim_lexer.specs.private.Passes.{CanStand, Passes};
 ghost use Rattle.stim_parser.specs.Circuits.{Fits};

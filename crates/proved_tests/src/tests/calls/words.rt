@@ -1,6 +1,5 @@
 //! Each public call once, with ample memory; products and commuting pairs by hand.
-ghost use Rattle.std.specs.Prelude.{◌≡◌, false, length, IfOk};
-ghost use Rattle.pauli_word.specs.Words.{anticommute};
+ghost use Rattle.std.specs.Prelude.{◌≡◌, length, IfOk};
 
 use pauli_word::Letter::{self, I, X, Y, Z};
 use pauli_word::{Word, laws};

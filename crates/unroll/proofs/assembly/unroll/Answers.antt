@@ -1,23 +1,28 @@
-use Rattle.std.proofs.Common.{◌≡◌, inr, None, Ok, ap, sym, ◌∙◌}
+use Rattle.std.proofs.Common.{Ok, ap, inr, sym, ◌∙◌}
 use Rattle.programs.specs.Kept.{KeptProgram}
-use Rattle.unroll.specs.private.Counted.{refusal_counted}
-use Rattle.unroll.proofs.FarLines.{refused-as-counted}
-use Rattle.unroll.proofs.AssemblyLemmas.{parts_fit, program_made, program_refused}
+use Rattle.unroll.proofs.AssemblyLemmas.{lists_fit, parts_fit, program_made, program_refused}
 use Rattle.unroll.proofs.assembly.unroll.Goals as goal
+
+pub lists_of-requires-clause-accepted : goal.lists_of-requires-clause-accepted
+lists_of-requires-clause-accepted g c = c.in_ok-totals.ensures.ok.counted
+
+pub lists_of-requires-clause-totals : goal.lists_of-requires-clause-totals
+lists_of-requires-clause-totals g c = c.in_ok-totals.ensures.ok.are_totals
+
+pub parts_of-requires-clause-accepted : goal.parts_of-requires-clause-accepted
+parts_of-requires-clause-accepted g c = c.in_ok-totals.ensures.ok.counted
+
+pub parts_of-requires-clause-totals : goal.parts_of-requires-clause-totals
+parts_of-requires-clause-totals g c = c.in_ok-totals.ensures.ok.are_totals
 
 pub new-requires : goal.new-requires
 new-requires g c =
     let t = c.args.circuit in
-    let accepted : refusal_counted t ≡ None = sym c.refusal_of.ensures ∙ c.in_default.is in
-    parts_fit t c.in_ok-parts.parts c.fits.ensures accepted c.in_ok-parts.ensures
+    let accepted = c.in_ok-totals.ensures.ok in
+    let fit = lists_fit t c.in_ok-lists.lists accepted c.in_ok-lists.ensures in
+    parts_fit t c.in_ok-lists.lists c.in_ok-parts.parts accepted fit c.in_ok-parts.ensures
 
 pub returns-clause-ok : goal.returns-clause-ok
 returns-clause-ok g c =
-    let t = c.args.circuit in
-    let accepted : refusal_counted t ≡ None = sym c.refusal_of.ensures ∙ c.in_default.is in
-    program_made t c.in_ok-parts.parts (sym (refused-as-counted t c.fits.ensures.fit) ∙ accepted) c.in_ok-parts.ensures ∙ ap (λ (p : KeptProgram). Ok p.listing) (sym c.new.ensures)
-
-pub returns-in-Some-clause-err : goal.returns-in-Some-clause-err
-returns-in-Some-clause-err g c =
-    let t = c.args.circuit in
-    inr (program_refused t c.in-Some.fault (sym (refused-as-counted t c.fits.ensures.fit) ∙ sym c.refusal_of.ensures ∙ c.in-Some.is))
+    program_made c.args.circuit c.in_ok-lists.lists c.in_ok-parts.parts c.in_ok-totals.ensures.ok.accepted c.in_ok-lists.ensures c.in_ok-parts.ensures
+    ∙ ap (λ (p : KeptProgram). Ok p.listing) (sym c.new.ensures)

@@ -1,10 +1,15 @@
-use Rattle.unroll.proofs.TextLemmas.{read-err, read-ok}
+use Rattle.std.proofs.Common.{◌≡◌, ◌⊎◌, Ok, Err}
+use Rattle.std.specs.Prelude.{IfOk, IfErr}
+use Rattle.step_model.specs.Faults.{memory_fault}
+use Rattle.unroll.proofs.TextLemmas.{as_written}
 use Rattle.unroll.proofs.reading.read_program.Goals as goal
 
 pub returns-clause-ok : goal.returns-clause-ok
 returns-clause-ok g c =
-    read-ok c.args.text.now c.in_ok-circuit.circuit c.unroll.result c.in_ok-circuit.ensures.ok c.unroll.ensures.ok
+    as_written c.args.text.now c.in_ok-circuit.circuit (λ read. IfOk c.unroll.result (λ program. read ≡ Ok program.listing))
+    c.in_ok-circuit.ensures.ok c.unroll.ensures.ok
 
 pub returns-clause-err : goal.returns-clause-err
 returns-clause-err g c =
-    read-err c.args.text.now c.in_ok-circuit.circuit c.unroll.result c.in_ok-circuit.ensures.ok c.unroll.ensures.err
+    as_written c.args.text.now c.in_ok-circuit.circuit (λ read. IfErr c.unroll.result (λ fault. (fault ≡ memory_fault) ⊎ (read ≡ Err fault)))
+    c.in_ok-circuit.ensures.ok c.unroll.ensures.err

@@ -1,0 +1,156 @@
+//! A tracker whose words stay short.
+ghost use Rattle.std.specs.Prelude.{◌≡◌, ◌<◌};
+
+use flat_lists::FlatLists;
+use gate_table::Gate;
+use pauli_word::Letter;
+use std::alloc::{AllocError, Allocator};
+use step_model::Term;
+use trackers::{FEW, Tracker};
+
+/// How many letters the words may have at a time. What is kept of them along the way is a few times as much.
+const MOST_HELD: usize = 1 << 21;
+
+/// How many letters may be gone over: so many, and more for each step.
+const MOST_READ: usize = 1 << 20;
+
+const READ_A_STEP: usize = 32;
+
+/// A tracker that answers as where memory runs out once its words have too many letters, or too many were gone over: for who has
+/// another way where the words of targets are long. It counts them by the lists that its tracker keeps.
+#[derive(Drop)]
+pub(crate) struct Limited<T> {
+    tracker: T,
+    held: usize,
+    left: usize,
+}
+
+impl<T: Tracker> Limited<T> {
+    /// A tracker whose words are the identity, for a program of so many steps.
+    pub(crate) fn new(tracker: T, steps: usize) -> Self
+        ensures { result.tracker ≡ tracker }
+    {
+        Limited {
+            tracker,
+            held: 0,
+            left: steps.saturating_mul(READ_A_STEP).saturating_add(MOST_READ),
+        }
+    }
+
+    /// How many letters the words have at a qubit, a Y being two.
+    fn letters(&self, q: usize) -> usize
+        requires { q < (T.tracked self.now.tracker).qubits }
+    {
+        match u32::try_from(q) {
+            Ok(qubit) => {
+                let x = hit_count(
+                    &self.tracker,
+                    Term {
+                        qubit,
+                        letter: Letter::Z,
+                    },
+                );
+                let z = hit_count(
+                    &self.tracker,
+                    Term {
+                        qubit,
+                        letter: Letter::X,
+                    },
+                );
+                x.saturating_add(z)
+            }
+            Err(_) => 0,
+        }
+    }
+
+    /// Counts letters that were gone over.
+    fn read(&mut self, letters: usize) -> Result<(), AllocError>
+        ensures { self.new.tracker ≡ self.old.tracker }
+    {
+        self.left = self.left.saturating_sub(letters);
+        if self.left == 0 {
+            return Err(AllocError);
+        }
+        Ok(())
+    }
+
+    /// Counts letters that took the place of others.
+    fn replace(&mut self, before: usize, after: usize) -> Result<(), AllocError>
+        ensures { self.new.tracker ≡ self.old.tracker }
+    {
+        self.held = self.held.saturating_sub(before).saturating_add(after);
+        if self.held > MOST_HELD {
+            return Err(AllocError);
+        }
+        self.read(after)
+    }
+}
+
+/// How many targets a letter hits, where they are kept as a list.
+fn hit_count<T: Tracker>(tracker: &T, term: Term) -> usize
+    requires { term.qubit < (T.tracked tracker.now).qubits }
+{
+    tracker.kept_hit(&[term]).map_or(0, |hit| hit.len())
+}
+
+impl<T: Tracker> Tracker for Limited<T> {
+    ghost tracked = { λ limited. T.tracked limited.tracker };
+
+    fn keep<B: Allocator + Copy>(&self, alloc: B) -> Result<FlatLists<u32, B>, AllocError> {
+        self.tracker.keep(alloc)
+    }
+
+    fn restore<B: Allocator + Copy>(
+        &mut self,
+        lists: &FlatLists<u32, B>,
+    ) -> Result<(), AllocError> {
+        self.tracker.restore(lists)
+    }
+
+    fn undo1(&mut self, gate: Gate, q: usize) -> Result<(), AllocError> {
+        let before = self.letters(q);
+        self.tracker.undo1(gate, q)?;
+        let after = self.letters(q);
+        self.replace(before, after)
+    }
+
+    fn undo2(&mut self, gate: Gate, a: usize, b: usize) -> Result<(), AllocError> {
+        let before = self.letters(a).saturating_add(self.letters(b));
+        self.tracker.undo2(gate, a, b)?;
+        let after = self.letters(a).saturating_add(self.letters(b));
+        self.replace(before, after)
+    }
+
+    fn add(&mut self, targets: &[u32], letter: Letter, q: usize) -> Result<(), AllocError> {
+        let before = self.letters(q);
+        self.tracker.add(targets, letter, q)?;
+        let after = self.letters(q);
+        self.replace(before, after)
+    }
+
+    fn clear(&mut self, q: usize) {
+        self.held = self.held.saturating_sub(self.letters(q));
+        self.tracker.clear(q);
+    }
+
+    fn hit<B: Allocator + Copy>(
+        &mut self,
+        terms: &[Term],
+        hit: &mut Vec<u32, B>,
+    ) -> Result<(), AllocError> {
+        self.tracker.hit(terms, hit)?;
+        let read = self.read(terms.len().saturating_add(hit.len()));
+        if read.is_err() {
+            hit.clear();
+        }
+        read
+    }
+
+    fn kept_hit(&self, terms: &[Term]) -> Option<&[u32]> {
+        self.tracker.kept_hit(terms)
+    }
+
+    fn few_hit(&self, terms: &[Term], hit: &mut [u32; FEW]) -> Option<usize> {
+        self.tracker.few_hit(terms, hit)
+    }
+}
