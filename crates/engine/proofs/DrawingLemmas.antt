@@ -7,7 +7,8 @@ use Rattle.rand_pcg.specs.Lcg.{Lcg}
 use Rattle.step_model.specs.declared.fault.Cause.TheVariants.{Shots}
 use Rattle.step_model.specs.declared.fault.Fault.{Fault}
 use Rattle.step_model.specs.Listing.{Listing}
-use Rattle.unroll.specs.Programs.{LacksTargets, program_in, without_targets}
+use Rattle.unroll.specs.Programs.{program_in}
+use Rattle.unroll.specs.Untargeted.{LacksTargets, without_targets}
 use Rattle.step_model.specs.Faults.{without_line, ◌>>=◌}
 use Rattle.frames.specs.Lines.{line_of}
 use Rattle.frames.specs.Sampled.{record_line, seeded, shot_coins, shot_faults, shot_generator, shots_text}

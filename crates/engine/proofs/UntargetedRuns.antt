@@ -10,7 +10,7 @@ use Rattle.step_model.specs.Listing as listing
 use Rattle.step_model.specs.Listing.{Listing, ListedStep}
 use Rattle.step_model.specs.Runs.{RunState, next, records_of, run_from, start}
 use Rattle.step_model.specs.Targets.{targets_of}
-use Rattle.unroll.specs.Programs.{LacksTargets, without_targets}
+use Rattle.unroll.specs.Untargeted.{LacksTargets, without_targets}
 use Rattle.engine.specs.Output.{done, program_output}
 use Rattle.engine.proofs.QuietRuns.{quiet_lines, unasked_output, zeros-quiet}
 

@@ -8,13 +8,14 @@ use std::alloc::{AllocError, Allocator};
 use step_model::Term;
 use trackers::{FEW, Tracker};
 
-/// How many letters the words may have at a time. What is kept of them along the way is a few times as much.
-const MOST_HELD: usize = 1 << 21;
+/// How many letters the words may have at a time. A surface code has some ten for each qubit. What is kept of them along the way
+/// is up to 25 times as much.
+const MOST_HELD: usize = 1 << 20;
 
-/// How many letters may be gone over: so many, and more for each step.
+/// How many letters may be gone over: so many, and more for each step, which takes about the time of a reference run.
 const MOST_READ: usize = 1 << 20;
 
-const READ_A_STEP: usize = 32;
+const READ_A_STEP: usize = 16;
 
 /// A tracker that answers as where memory runs out once its words have too many letters, or too many were gone over: for who has
 /// another way where the words of targets are long. It counts them by the lists that its tracker keeps.

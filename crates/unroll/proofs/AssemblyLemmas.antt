@@ -18,7 +18,6 @@ use Rattle.step_model.specs.Faults.{unless}
 use Rattle.step_model.specs.Listing.{Listing}
 use Rattle.step_model.specs.Targets.{targets_of}
 use Rattle.step_model.specs.WellFormed.{CoordinatesFit, ProductFits, most_detectors, most_observables}
-use Rattle.stim_parser.specs.Circuits.{IsCircuit}
 use Rattle.stim_parser.specs.Trees.{Tree}
 use Rattle.unroll.specs.declared.assembly.Lists.{Lists}
 use Rattle.unroll.specs.declared.totals.Totals.{Totals}
@@ -34,7 +33,8 @@ use Rattle.unroll.specs.private.Summed.{AreTotals, greatest}
 use Rattle.unroll.specs.Totals.{observable_total, qubit_total}
 use Rattle.unroll.specs.private.MadeTotals.{detector_total, fault_total, made_total, collapse_total, record_total}
 use Rattle.unroll.specs.Meaning.{listing_of}
-use Rattle.unroll.specs.Programs.{LacksTargets, program_of, without_targets}
+use Rattle.unroll.specs.Programs.{program_of}
+use Rattle.unroll.specs.Untargeted.{LacksTargets, without_targets}
 use Rattle.unroll.proofs.CoordinateFits.{coordinates_fit}
 use Rattle.unroll.proofs.EntriesFit.{entries_fit}
 use Rattle.unroll.proofs.ProductsFit.{products_fit}

@@ -7,4 +7,5 @@ pub mod Meaning
 pub mod StepsMade
 pub mod Targets
 pub mod TargetsMade
+pub mod Untargeted
 pub mod private

@@ -1,11 +1,10 @@
 -- The program for which a circuit's text stands, or why the text is refused: by its first line that is refused, or by
 -- what its circuit as a whole takes. (Stim's circuit format, github.com/quantumlib/Stim,
 -- doc/file_format_stim_circuit.md.)
-use Rattle.std.specs.Prelude.{◌≡◌, ℕ, List, [], length, Result, Ok}
+use Rattle.std.specs.Prelude.{ℕ, List, Result}
 use Rattle.step_model.specs.declared.fault.Fault.{Fault}
 use Rattle.step_model.specs.Listing.{Listing}
 use Rattle.step_model.specs.Faults.{unless, ◌>>=◌}
-use Rattle.step_model.specs.Targets.{targets_of}
 use Rattle.stim_lexer.specs.Flat.{tree_of}
 use Rattle.stim_parser.specs.Texts.{items_in}
 use Rattle.stim_parser.specs.Trees.{Tree}
@@ -19,14 +18,3 @@ program_of tree = unless (circuit_refusal tree) (listing_of tree)
 -- the program of a text, or its refusal
 abbrev pub program_in : List ℕ → Result Listing Fault
 program_in text = items_in text >>= (λ items. program_of (tree_of items))
-
--- a program without its targets
-abbrev pub without_targets : Listing → Listing
-without_targets program = record program { detectors = []; observables = []; coordinates = [] }
-
--- this program is the one that was read but for its targets, of which there are so many
-pub record LacksTargets (read : Result Listing Fault) (program : Listing) (targets : ℕ) : Type 0 where
-  pub whole : Listing
-  pub is_read : read ≡ Ok whole
-  pub steps : program ≡ without_targets whole
-  pub counted : targets ≡ length (targets_of whole)

@@ -3,7 +3,8 @@ ghost use Rattle.step_model.specs.Faults.{memory_fault};
 ghost use Rattle.unroll.specs.private.Assembled.{ArePartsOf, HasLists, HasNoLists, IsAccepted};
 ghost use Rattle.unroll.specs.private.Counted.{refusal_counted};
 ghost use Rattle.unroll.specs.private.Summed.{AreTotals};
-ghost use Rattle.unroll.specs.Programs.{program_of, LacksTargets};
+ghost use Rattle.unroll.specs.Programs.{program_of};
+ghost use Rattle.unroll.specs.Untargeted.{LacksTargets};
 ghost use Rattle.unroll.specs.Refusals.{circuit_refusal};
 
 use crate::coordinates::coordinates_of;

@@ -1,6 +1,7 @@
 ghost use Rattle.std.specs.Prelude.{◌≡◌, ◌⊎◌, Ok, Err, IfOk, IfErr};
 ghost use Rattle.step_model.specs.Faults.{memory_fault};
-ghost use Rattle.unroll.specs.Programs.{program_in, LacksTargets};
+ghost use Rattle.unroll.specs.Programs.{program_in};
+ghost use Rattle.unroll.specs.Untargeted.{LacksTargets};
 
 use crate::assembly::{Untargeted, unroll, unroll_untargeted};
 use programs::Program;

@@ -1,6 +1,6 @@
-use Rattle.std.proofs.Common.{Ok, ap, inr, sym, ◌∙◌}
+use Rattle.std.proofs.Common.{Ok, ap, sym, ◌∙◌}
 use Rattle.programs.specs.Kept.{KeptProgram}
-use Rattle.unroll.proofs.AssemblyLemmas.{lists_fit, parts_fit, program_made, program_refused}
+use Rattle.unroll.proofs.AssemblyLemmas.{lists_fit, parts_fit, program_made}
 use Rattle.unroll.proofs.assembly.unroll.Goals as goal
 
 pub lists_of-requires-clause-accepted : goal.lists_of-requires-clause-accepted

@@ -1,8 +1,7 @@
-use Rattle.std.proofs.Common.{◌≡◌, ℕ, ◌+◌, ap₂, arith, subst, sym}
+use Rattle.std.proofs.Common.{ℕ, ◌+◌, ap₂, arith, subst, sym}
 use Rattle.programs.specs.Kept.{KeptProgram}
-use Rattle.unroll.specs.private.MadeTotals.{detector_total}
-use Rattle.unroll.specs.Programs.{LacksTargets, program_of}
-use Rattle.unroll.specs.Totals.{observable_total}
+use Rattle.unroll.specs.Programs.{program_of}
+use Rattle.unroll.specs.Untargeted.{LacksTargets}
 use Rattle.unroll.proofs.AssemblyLemmas.{none_fit, parts_fit, program_lacks, totals_whole}
 use Rattle.unroll.proofs.assembly.unroll_untargeted.Goals as goal
 

@@ -1,7 +1,7 @@
 use Rattle.std.proofs.Common.{◌≡◌, ◌⊎◌, Err}
 use Rattle.std.specs.Prelude.{IfOk, IfErr}
 use Rattle.step_model.specs.Faults.{memory_fault}
-use Rattle.unroll.specs.Programs.{LacksTargets}
+use Rattle.unroll.specs.Untargeted.{LacksTargets}
 use Rattle.unroll.proofs.TextLemmas.{as_written}
 use Rattle.unroll.proofs.reading.read_untargeted.Goals as goal
 
