@@ -108,7 +108,8 @@ logical_observable L1
 
 /// An order on a text, what is written so many times over, how that ends, and how many growths the order does without where one is
 /// refused. Coins and lines that are given are collected, which goes on in smaller steps where the room for all of them is refused.
-/// Coordinates, where there are any, move to a block just as long, or else stay; so do their ends, where later turns left room.
+/// Coordinates, where there are any and they are read, move to a block just as long, or else stay; so do their ends, where later turns
+/// left room. Detections are drawn beside a reference run where there is no memory to find out that no target is random.
 pub(super) struct Row {
     pub order: Order<'static>,
     pub text: &'static str,
@@ -285,7 +286,7 @@ coins 25
 ",
         times: 1,
         status: Status::Done,
-        spared: 1,
+        spared: 0,
     },
     Row {
         order: Order::Predict { lines: b"0,1" },
@@ -320,7 +321,7 @@ coins 25
         output: "011111110101010100101\n",
         times: 800,
         status: Status::Done,
-        spared: 1,
+        spared: 0,
     },
     Row {
         order: Order::Sample {
@@ -331,7 +332,7 @@ coins 25
         output: "refused 52 line 0\n",
         times: 1,
         status: Status::Refused,
-        spared: 1,
+        spared: 0,
     },
     Row {
         order: Order::Detect {
@@ -342,7 +343,7 @@ coins 25
         output: "1001\n",
         times: 3_500,
         status: Status::Done,
-        spared: 1,
+        spared: 81,
     },
     Row {
         order: Order::Detect { shots: 1, seed: 6 },
