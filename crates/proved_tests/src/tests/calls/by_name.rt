@@ -12,7 +12,7 @@ use std::alloc::{AllocError, Global};
 use step_model::{Fault, Term};
 use stim_parser::{Probability, parse};
 use tableau::Tableau;
-use unroll::unroll;
+use unroll::{read_untargeted, unroll};
 
 /// Whether a row of which one bit is flipped and another row are exchanged.
 fn flips_and_exchanges(alloc: Global) -> Result<bool, AllocError> {
@@ -155,4 +155,17 @@ fn reads_and_changes(alloc: Global) -> Result<bool, Fault> {
 #[test]
 fn a_run_and_its_detections(rt: HostRuntime) {
     assert!(rt; matches!(reads_and_changes(rt.alloc()), Ok(true)));
+}
+
+const TARGETS: &[u8] = b"M 0\nDETECTOR(3) rec[-1]\nOBSERVABLE_INCLUDE(1) rec[-1]\n";
+
+/// Whether a circuit is read without its detector and its two observables, which are counted.
+fn is_read_without_targets(alloc: Global) -> Result<bool, Fault> {
+    let read = read_untargeted(alloc, TARGETS)?;
+    Ok(read.targets == 3 && read.program.target_count() == 0 && read.program.record_count() == 1)
+}
+
+#[test]
+fn targets_that_are_counted(rt: HostRuntime) {
+    assert!(rt; matches!(is_read_without_targets(rt.alloc()), Ok(true)));
 }

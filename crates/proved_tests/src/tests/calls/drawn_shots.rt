@@ -1,13 +1,18 @@
-//! Drawn shots of a small program, against the generator's words taken outside.
+//! Drawn shots of small programs, against the generator's words taken outside.
+ghost use Rattle.backward.specs.Places.{NoneIsRandom};
+
 use crate::tests::tables::are_digits;
+use crate::tests::words::sparse_words;
+use backward::first_random;
 use forward_sim::draw;
+use frames::write_detections;
 use programs::Program;
 use rand_core::SeedableRng;
 use rand_core::utils::NextWord;
 use rand_pcg::Pcg64;
 use std::alloc::Global;
 use std::test::Fail;
-use step_model::Fault;
+use step_model::{Fault, MemorySink};
 use unroll::read_program;
 
 const CIRCUIT: &[u8] = b"\
@@ -63,5 +68,33 @@ fn has_shots(alloc: Global, program: &Program<'_, Global>) -> Result<bool, Fault
 fn shots_of_seed_five(rt: HostRuntime) -> Result<(), Fail> {
     let program = read_program(rt.alloc(), CIRCUIT)?;
     assert!(rt; has_shots(rt.alloc(), &program)?);
+    Ok(())
+}
+
+const CERTAIN: &[u8] = b"X_ERROR(1) 0\nM 0 1\nDETECTOR rec[-2]\nDETECTOR rec[-1]\n";
+
+/// Whether both shots have the detection of the fault that always happens.
+fn are_detected(alloc: Global, program: &Program<'_, Global>) -> Result<bool, Fault>
+    requires { NoneIsRandom program.now.listing }
+{
+    let mut sink = MemorySink::new(alloc);
+    write_detections(alloc, program, 2, 5, &mut sink)?;
+    Ok(sink.bytes() == b"10\n10\n".as_slice())
+}
+
+fn has_detections(alloc: Global, program: &Program<'_, Global>) -> Result<bool, Fault> {
+    let Ok(words) = sparse_words(&alloc, program) else {
+        return Err(Fault::MEMORY);
+    };
+    match first_random(alloc, program, words)? {
+        None => are_detected(alloc, program),
+        Some(_) => Ok(false),
+    }
+}
+
+#[test]
+fn detections_without_a_reference_run(rt: HostRuntime) -> Result<(), Fail> {
+    let program = read_program(rt.alloc(), CERTAIN)?;
+    assert!(rt; has_detections(rt.alloc(), &program)?);
     Ok(())
 }
