@@ -13,7 +13,7 @@ use trackers::{FEW, Tracker};
 const MOST_HELD: usize = 1 << 20;
 
 /// How many letters may be gone over: so many, and more for each step, which takes about the time of a reference run.
-const MOST_READ: usize = 1 << 20;
+const MOST_READ: usize = 1 << 18;
 
 const READ_A_STEP: usize = 16;
 

@@ -1,5 +1,5 @@
 -- Sets of targets as descending lists.
-use Rattle.std.proofs.Common.{◌≡◌, ℕ, zero, suc, ◌+◌, ◌-◌, ◌<◌, ◌≤◌, ◌==◌, nat_lt, Bool, true, false, not, List, [], ◌∷◌, ◌++◌, length, map, get_or, set, drop, inl, inr, Result, Ok, Err, OnOk, OnErr, refl, ap, ap₂, subst, sym, ◌∙◌, arith, append-nil}
+use Rattle.std.proofs.Common.{◌≡◌, ℕ, zero, suc, ◌+◌, ◌-◌, ◌<◌, ◌≤◌, ◌==◌, nat_lt, Bool, true, false, not, List, [], ◌∷◌, ◌++◌, length, map, get_or, set, drop, take, inl, inr, Result, Ok, Err, OnOk, OnErr, refl, ap, ap₂, subst, sym, ◌∙◌, arith, append-nil}
 use Rattle.std.specs.Prelude.{◌⊎◌, filter, reverse, replicate, insert, remove, if◌then◌else◌}
 use Rattle.std.specs.List.{range_with_len}
 use Rattle.std.proofs.Math.Nat.{suc_inj}
@@ -151,10 +151,11 @@ pub descends_summed : {V E : Type 0} (r : Result V E) (m : ℕ) (new sum : List 
 descends_summed (Ok v) m new sum ok err h = subst (DescendsBelow m) (sym ok) h
 descends_summed (Err e) m new sum ok err h = subst (DescendsBelow m) (sym err) tt
 
--- the same where a call that failed left the list as it was
-pub descends_kept : {V E : Type 0} (r : Result V E) (m : ℕ) (old new sum : List ℕ) → OnOk r (new ≡ sum) → OnErr r (new ≡ old) → DescendsBelow m sum → DescendsBelow m old → DescendsBelow m new
-descends_kept (Ok v) m old new sum ok err h k = subst (DescendsBelow m) (sym ok) h
-descends_kept (Err e) m old new sum ok err h k = subst (DescendsBelow m) (sym err) k
+-- the same where a call that failed left some of a list that descends
+pub descends_after : {V E : Type 0} (r : Result V E) (m : ℕ) (old new sum : List ℕ) → OnOk r ((n : ℕ) → DescendsBelow n old → new ≡ sum) → OnErr r ((n : ℕ) → DescendsBelow n old → DescendsBelow n new)
+    → DescendsBelow m sum → DescendsBelow m old → DescendsBelow m new
+descends_after (Ok v) m old new sum ok err h k = subst (DescendsBelow m) (sym (ok m k)) h
+descends_after (Err e) m old new sum ok err h k = err m k
 
 -- ---- one target toggled
 pub descends_toggled : {V E : Type 0} (r : Result V E) (m t : ℕ) (old new : List ℕ) → OnOk r ((n : ℕ) → DescendsBelow n old → new ≡ xor_sets (t ∷ []) old) → OnErr r (new ≡ old) → t < m → DescendsBelow m old → DescendsBelow m new
@@ -222,6 +223,25 @@ came_last m xs seen t is low descends =
     (λ k e. let here = low (omega (arith, e, ap length is)) in
     let last : length seen - 1 ≡ k = omega (arith, e, ap length is) in
     subst (λ (s : List ℕ). t < get_or s k 0) is (subst (λ j. t < get_or seen j 0) last here))
+
+-- a list behind targets that are above it
+pub tail_merged : (m : ℕ) (xs ys : List ℕ) (y k : ℕ) → DescendsBelow m xs → 0 < k → k ≤ length xs → y < get_or xs (k - 1) 0
+    → take k xs ++ xor_sets (drop k xs) (y ∷ ys) ≡ xor_sets xs (y ∷ ys)
+tail_merged m xs ys y zero h some within above = absurd (omega (arith, some))
+tail_merged m [] ys y (suc k) h some within above = absurd (omega (arith, within))
+tail_merged m (x ∷ xs) ys y (suc zero) h some within above =
+    sym (ap (λ b. if b then x ∷ xor_sets xs (y ∷ ys) else (if nat_lt x y then y ∷ xor_step x (xor_sets xs) ys else xor_sets xs ys)) (lt-ltb y x above))
+tail_merged m (x ∷ xs) ys y (suc (suc k)) h some within above =
+    let there : y < get_or xs k 0 = subst (λ j. y < get_or (x ∷ xs) j 0) (two k) above in
+    let low : get_or xs k 0 < x = get_below x xs k h.1 (omega (arith, within)) in
+    let e : suc k - 1 ≡ k = omega arith in
+    ap (λ l. x ∷ l) (tail_merged x xs ys y (suc k) h.1 (omega arith) (omega (arith, within)) (subst (λ j. y < get_or xs j 0) (sym e) there))
+    ∙ sym (ap (λ b. if b then x ∷ xor_sets xs (y ∷ ys) else (if nat_lt x y then y ∷ xor_step x (xor_sets xs) ys else xor_sets xs ys)) (lt-ltb y x (omega (arith, low, there))))
+
+pub descends_taken : (m k : ℕ) (xs : List ℕ) → DescendsBelow m xs → DescendsBelow m (take k xs)
+descends_taken m zero xs h = tt
+descends_taken m (suc k) [] h = tt
+descends_taken m (suc k) (x ∷ xs) h = (h.0, descends_taken x k xs h.1)
 
 -- ---- rows
 pub row_of_xor_sets : (m : ℕ) (xs ys : List ℕ) → row_of_set m (xor_sets xs ys) ≡ xor_rows (row_of_set m xs) (row_of_set m ys)

@@ -162,35 +162,55 @@ pub(crate) fn merge<A: Allocator + Copy>(
     }
 }
 
-/// Puts the exclusive or of two descending lists in place of the first, which stays as it was after an error. What the
-/// spare list held is lost.
+// From where on no target of a descending list is greater than this one, searched for from the end.
+fn tail_from(items: &[u32], target: u32) -> usize
+    ensures within { result ≤ length items.now }
+    ensures above { 0 < result → target < slice_index items.now (result - 1) }
+{
+    let mut place = items.len();
+    while place > 0 && items[place - 1] <= target {
+        place -= 1;
+    }
+    place
+}
+
+/// Puts the exclusive or of two descending lists in place of the first. Its targets above those of the other aren't gone over:
+/// where targets come from the greatest down, these are most of a long list. After an error the first may have lost its end.
+/// What the spare list held is lost.
 #[inline(never)]
 pub(crate) fn add_many<'a, A: Allocator + Copy>(
     items: &mut SmallVec<u32, 4, &'a A>,
     more: &[u32],
     spare: &mut SmallVec<u32, 4, &'a A>,
 ) -> Result<(), AllocError>
-    ensures ok { OnOk result (items.new.items ≡ xor_sets items.old.items more.now) }
-    ensures err { OnErr result (items.new.items ≡ items.old.items) }
+    ensures ok { OnOk result
+        ((m : ℕ)
+        → DescendsBelow m items.old.items
+        → items.new.items ≡ xor_sets items.old.items more.now) }
+    ensures err { OnErr result
+        ((m : ℕ) → DescendsBelow m items.old.items → DescendsBelow m items.new.items) }
     ensures spare { (m : ℕ)
         → DescendsBelow m items.old.items
         → DescendsBelow m spare.old.items
         → DescendsBelow m spare.new.items }
 {
-    if items.as_slice().is_empty() {
-        return items.extend_from_slice(more);
-    }
+    let Some(greatest) = more.first() else {
+        return Ok(());
+    };
+    let start = tail_from(items.as_slice(), *greatest);
     spare.clear();
-    match merge(items.as_slice(), more, spare) {
-        Ok(()) => {
-            std::mem::swap(items, spare);
-            Ok(())
-        }
-        Err(error) => {
-            spare.clear();
-            Err(error)
-        }
+    if let Err(error) = merge(&items.as_slice()[start..], more, spare) {
+        spare.clear();
+        return Err(error);
     }
+    if start == 0 {
+        std::mem::swap(items, spare);
+        return Ok(());
+    }
+    items.truncate(start);
+    let added = items.extend_from_slice(spare.as_slice());
+    spare.clear();
+    added
 }
 
 /// Puts the exclusive or of two descending lists at the start of `sum`, and answers how long it is, where both are

@@ -1,7 +1,7 @@
 use Rattle.std.proofs.Common.{ap, ap₂, subst, sym, ◌∙◌}
 use Rattle.std.proofs.lemmas.Result.{on_ok_weaker}
 use Rattle.trackers.specs.private.Sets.{DescendsBelow, xor_sets}
-use Rattle.trackers.proofs.SetLemmas.{descends_kept, descends_summed, same_count, summed}
+use Rattle.trackers.proofs.SetLemmas.{descends_after, descends_summed, same_count, summed}
 use Rattle.trackers.proofs.sparse_set.SparseSet.add_some.Goals as goal
 
 pub invariant_of-self : goal.invariant_of-self
@@ -26,7 +26,7 @@ invariant_of-self-in-None g c =
     let m = c.self.inside.targets in
     let mine = c.self.inside.items.items in
     let sum = summed m c.other.inside.targets mine c.other.inside.items.items _ _ c.self.view_is c.other.view_is c.requires.other c.other.invariant in
-    descends_kept c.add_many.result m mine c.add_many.new.items.items _ c.add_many.ensures.ok c.add_many.ensures.err
+    descends_after c.add_many.result m mine c.add_many.new.items.items _ c.add_many.ensures.ok c.add_many.ensures.err
     (subst (λ l. DescendsBelow m (xor_sets mine l)) (sym c.as_slice-more.ensures) (sum.below c.self.invariant)) c.self.invariant
 
 pub invariant_of-spare : goal.invariant_of-spare
@@ -39,4 +39,4 @@ pub returns-in-None-clause-ok : goal.returns-in-None-clause-ok
 returns-in-None-clause-ok g c =
     let mine = c.self.inside.items.items in
     let sum = summed c.self.inside.targets c.other.inside.targets mine c.other.inside.items.items _ _ c.self.view_is c.other.view_is c.requires.other c.other.invariant in
-    on_ok_weaker c.add_many.result (λ h. sum.row c.add_many.new.items.items (h ∙ ap (xor_sets mine) c.as_slice-more.ensures)) c.add_many.ensures.ok
+    on_ok_weaker c.add_many.result (λ h. sum.row c.add_many.new.items.items (h c.self.inside.targets c.self.invariant ∙ ap (xor_sets mine) c.as_slice-more.ensures)) c.add_many.ensures.ok
