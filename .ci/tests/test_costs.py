@@ -42,6 +42,13 @@ class Costs(ProgramTest):
         output = "".join(f"detector D{k}\n" for k in range(100_000))
         self.check_within(2, 100, ["analyze"], circuit, output)
 
+    def test_a_word_that_each_turn_adds_to(self):
+        """A qubit that no turn resets is seen by all 100,000 detectors. Each is added to a list of those behind it."""
+        turn = "    X_ERROR(0.01) 1\n    CX 0 1\n    MR 1\n    DETECTOR rec[-1]\n"
+        circuit = "REPEAT 100000 {\n" + turn + "}\n"
+        output = "".join(f"{name} D{k}\n" for name in ("error(0.01)", "detector") for k in range(100_000))
+        self.check_within(2, 40, ["analyze"], circuit, output)
+
     def test_turns_of_a_fault_of_4096_letters(self):
         """A fault's word is put in order in its length: 300 lines of 23,000 bytes."""
         circuit = "REPEAT 300 {\n    E(0.1)" + named("X", range(4096)) + "\n}\n"
