@@ -1,5 +1,5 @@
 -- What needs no targets is the same of a program without them.
-use Rattle.std.proofs.Common.{◌≡◌, ◌∙◌, ℕ, Bool, false, List, [], ◌∷◌, ◌++◌, ◌+◌, length, length-append, replicate, None, refl, ap, ap₂, sym}
+use Rattle.std.proofs.Common.{◌≡◌, ◌∙◌, ℕ, Bool, false, List, [], ◌∷◌, ◌++◌, ◌+◌, length, length-append, replicate, None, refl, ap, sym}
 use Rattle.std.specs.Prelude.{Result, Ok}
 use Rattle.fault_list.specs.FaultLines.{list_text}
 use Rattle.frames.specs.Lines.{line_of}
@@ -9,7 +9,6 @@ use Rattle.step_model.specs.Frames.{zero_coins}
 use Rattle.step_model.specs.Listing as listing
 use Rattle.step_model.specs.Listing.{Listing, ListedStep}
 use Rattle.step_model.specs.Runs.{RunState, next, records_of, run_from, start}
-use Rattle.step_model.specs.Targets.{targets_of}
 use Rattle.unroll.specs.Untargeted.{LacksTargets, without_targets}
 use Rattle.engine.specs.Output.{done, program_output}
 use Rattle.engine.proofs.QuietRuns.{quiet_lines, unasked_output, zeros-quiet}

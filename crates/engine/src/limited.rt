@@ -18,7 +18,8 @@ const MOST_READ: usize = 1 << 18;
 const READ_A_STEP: usize = 16;
 
 /// A tracker that answers as where memory runs out once its words have too many letters, or too many were gone over: for who has
-/// another way where the words of targets are long. It counts them by the lists that its tracker keeps.
+/// another way where the words of targets are long. It counts them by the lists that its tracker keeps. Words that are
+/// restored are taken to have as many as those before, as where turns that repeat were gone past.
 #[derive(Drop)]
 pub(crate) struct Limited<T> {
     tracker: T,
@@ -65,7 +66,7 @@ impl<T: Tracker> Limited<T> {
     }
 
     /// Counts letters that were gone over.
-    fn read(&mut self, letters: usize) -> Result<(), AllocError>
+    fn count_read(&mut self, letters: usize) -> Result<(), AllocError>
         ensures { self.new.tracker ≡ self.old.tracker }
     {
         self.left = self.left.saturating_sub(letters);
@@ -76,14 +77,14 @@ impl<T: Tracker> Limited<T> {
     }
 
     /// Counts letters that took the place of others.
-    fn replace(&mut self, before: usize, after: usize) -> Result<(), AllocError>
+    fn count_replaced(&mut self, before: usize, after: usize) -> Result<(), AllocError>
         ensures { self.new.tracker ≡ self.old.tracker }
     {
         self.held = self.held.saturating_sub(before).saturating_add(after);
         if self.held > MOST_HELD {
             return Err(AllocError);
         }
-        self.read(after)
+        self.count_read(after)
     }
 }
 
@@ -112,21 +113,21 @@ impl<T: Tracker> Tracker for Limited<T> {
         let before = self.letters(q);
         self.tracker.undo1(gate, q)?;
         let after = self.letters(q);
-        self.replace(before, after)
+        self.count_replaced(before, after)
     }
 
     fn undo2(&mut self, gate: Gate, a: usize, b: usize) -> Result<(), AllocError> {
         let before = self.letters(a).saturating_add(self.letters(b));
         self.tracker.undo2(gate, a, b)?;
         let after = self.letters(a).saturating_add(self.letters(b));
-        self.replace(before, after)
+        self.count_replaced(before, after)
     }
 
     fn add(&mut self, targets: &[u32], letter: Letter, q: usize) -> Result<(), AllocError> {
         let before = self.letters(q);
         self.tracker.add(targets, letter, q)?;
         let after = self.letters(q);
-        self.replace(before, after)
+        self.count_replaced(before, after)
     }
 
     fn clear(&mut self, q: usize) {
@@ -140,7 +141,7 @@ impl<T: Tracker> Tracker for Limited<T> {
         hit: &mut Vec<u32, B>,
     ) -> Result<(), AllocError> {
         self.tracker.hit(terms, hit)?;
-        let read = self.read(terms.len().saturating_add(hit.len()));
+        let read = self.count_read(terms.len().saturating_add(hit.len()));
         if read.is_err() {
             hit.clear();
         }
