@@ -15,6 +15,7 @@ pub mod WordsSaid
 pub mod RunLemmas
 pub mod WordLemmas
 pub mod HalfLemmas
+pub mod SeatLemmas
 pub mod BoundLemmas
 pub mod BoundWalks
 pub mod BoundHits

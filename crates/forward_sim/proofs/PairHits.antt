@@ -7,7 +7,7 @@ use Rattle.rand_pcg.specs.Pcg.{pcg64}
 use Rattle.forward_sim.specs.Drawn.{after_words, word_at}
 use Rattle.forward_sim.specs.private.LaneDraws.{DrawsInto, fault_hits}
 use Rattle.forward_sim.specs.private.PairDraws.{BothDrawn, DrawsIntoBoth}
-use Rattle.forward_sim.proofs.BoundHits.{hits_behind, hits_from_first, hits_front, hits_one, left_behind, left_by_one}
+use Rattle.forward_sim.proofs.BoundHits.{hits_behind, hits_front, hits_one, left_behind, left_by_one}
 use Rattle.forward_sim.proofs.PairLemmas.{both_in_turn, both_joined, both_like, both_missed}
 use Rattle.forward_sim.proofs.RunLemmas.{none_below}
 use Rattle.forward_sim.proofs.WordLemmas.{after_words-none}
@@ -77,12 +77,3 @@ both_passed i j start bound n g h g_then h_then words none first second =
     none_hit from k low high =
         none_below (word_at from (k - start)) (get_or (replicate n bound) (k - start) 0)
         (get_or-replicate n (k - start) bound 0 (omega (arith, length-replicate n bound, low, high)) ∙ none)
-
--- the faults from the first on
-pub both_from_first : (i j : ℕ) (bounds : List ℕ) (g h : Lcg) (old new : List ℕ) (g_left h_left : Lcg) → BothDrawn i j 0 bounds g h old new g_left h_left
-    → DrawsIntoBoth i j 0 (length bounds) (fault_hits bounds g) (fault_hits bounds h) old new
-both_from_first i j bounds g h old new g_left h_left draws =
-    let end : 0 + length bounds ≡ length bounds = omega arith in
-    subst (λ n. DrawsIntoBoth i j 0 n (fault_hits bounds g) (fault_hits bounds h) old new) end
-    (both_like i j 0 (0 + length bounds) (λ k. fault_hits bounds g (k - 0)) (λ k. fault_hits bounds h (k - 0)) (fault_hits bounds g) (fault_hits bounds h) old new
-    (λ k low high. hits_from_first bounds g k) (λ k low high. hits_from_first bounds h k) draws.drawn)

@@ -1,14 +1,13 @@
--- Drawing into two lanes at once: into no word, into one, and into spans that meet; and what the lanes then are.
-use Rattle.std.proofs.Common.{◌≡◌, ℕ, ◌<◌, ◌≤◌, Bool, false, List, length, get_or, map, replicate, refl, sym, ap, ◌∙◌, arith}
+-- Drawing into two lanes at once: into no word, into one, and into spans that meet.
+use Rattle.std.proofs.Common.{◌≡◌, ℕ, ◌<◌, ◌≤◌, Bool, false, List, length, get_or, refl, sym, ap, ◌∙◌, arith}
 use Rattle.std.specs.Prelude.{◌≢◌, ◌-◌, ◌||◌}
-use Rattle.std.specs.List.{range_with_len}
 use Rattle.rand_pcg.specs.Lcg.{Lcg}
-use Rattle.bit_rows.specs.Lanes.{lane, lane_bit}
+use Rattle.bit_rows.specs.Lanes.{lane_bit}
 use Rattle.forward_sim.specs.declared.span.Span.{Span}
 use Rattle.forward_sim.specs.Drawn.{after_words}
 use Rattle.forward_sim.specs.private.LaneDraws.{DrawsInto, coin_hits, toss_hits}
 use Rattle.forward_sim.specs.private.PairDraws.{DrawsIntoBoth}
-use Rattle.forward_sim.proofs.LaneLemmas.{lane_filled, lane_joined, lane_same, passed-between, tossed-first, tossed-last}
+use Rattle.forward_sim.proofs.LaneLemmas.{lane_joined, passed-between, tossed-first, tossed-last}
 
 pub both_nothing : (i j start : ℕ) (hits other_hits : ℕ → Bool) (words : List ℕ) → DrawsIntoBoth i j start start hits other_hits words words
 both_nothing i j start hits other_hits words =
@@ -92,19 +91,3 @@ both_coins i j passed g h from other_from old middle new order within at other_a
     (both_like i j passed.end (length old) (λ c. toss_hits from (c - passed.end)) (λ c. toss_hits other_from (c - passed.end)) hits other_hits middle new
     (λ k low high. tossed-last passed g from k at low)
     (λ k low high. tossed-last passed h other_from k other_at low) last)
-
--- lanes that were blank hold what was drawn into them, and the other lanes are as they were
-pub first_drawn : (i j n : ℕ) (hits other_hits : ℕ → Bool) (old new : List ℕ) → length old ≡ n → lane i old ≡ replicate n false
-    → DrawsIntoBoth i j 0 n hits other_hits old new → lane i new ≡ map hits (range_with_len 0 n)
-first_drawn i j n hits other_hits old new long blank draws =
-    lane_filled i n hits old new long draws.size blank (λ k l. draws.first k (omega arith) l)
-
-pub second_drawn : (i j n : ℕ) (hits other_hits : ℕ → Bool) (old new : List ℕ) → length old ≡ n → lane j old ≡ replicate n false
-    → DrawsIntoBoth i j 0 n hits other_hits old new → lane j new ≡ map other_hits (range_with_len 0 n)
-second_drawn i j n hits other_hits old new long blank draws =
-    lane_filled j n other_hits old new long draws.size blank (λ k l. draws.second k (omega arith) l)
-
-pub both_kept : (l i j start end : ℕ) (hits other_hits : ℕ → Bool) (old new : List ℕ) → l ≢ i → l ≢ j
-    → DrawsIntoBoth i j start end hits other_hits old new → lane l new ≡ lane l old
-both_kept l i j start end hits other_hits old new ne ne_other draws =
-    lane_same l old new draws.size (λ k. draws.others l k ne ne_other)

@@ -6,4 +6,5 @@ pub mod SameRuns
 pub mod BoundRuns
 pub mod LaneDraws
 pub mod PairDraws
+pub mod HalfDraws
 pub mod Sieves

@@ -1,100 +1,107 @@
-// Shots drawn into two lanes at once, each by a generator of its own.
-ghost use Rattle.std.specs.Prelude.{◌≡◌, ◌≢◌, ℕ, ◌+◌, ◌-◌, ◌<◌, ◌≤◌, [], ◌∷◌, length};
-ghost use Rattle.forward_sim.specs.private.BoundRuns.{IsGreatestBelow, bounds_above, bounds_in, bounds_of_run};
+// Faults and coins drawn into two lanes at once, each by a generator of its own.
+ghost use Rattle.std.specs.Prelude.{◌≡◌, ℕ, ◌+◌, ◌-◌, ◌<◌, ◌≤◌, [], ◌∷◌, length};
+ghost use Rattle.forward_sim.specs.private.BoundRuns.{IsGreatestBelow, bounds_above, bounds_of_run};
 ghost use Rattle.forward_sim.specs.Drawn.{after_words};
-ghost use Rattle.forward_sim.specs.private.LaneDraws.{HasRoom, coin_hits, fault_hits, toss_hits};
+ghost use Rattle.forward_sim.specs.private.LaneDraws.{coin_hits, toss_hits};
 ghost use Rattle.forward_sim.specs.private.PairDraws.{BothDrawn, DrawsIntoBoth};
 
 use crate::copies::copy_of;
-use crate::fault_bounds::FaultBounds;
 use crate::lane_draws::toss;
+use crate::pair_draw::{LanePair, PairDraw};
 use crate::runs::{BoundRun, word_below};
 use crate::sieve::Sieve;
 use crate::span::Span;
 use crate::striker::{Comparison, Striker};
 use rand_core::utils::NextWord;
 use rand_pcg::Pcg64;
-use std::alloc::Allocator;
 
-/// Two lanes.
+/// The faults of a run, from this one on. A fault happens where its word is below its bound.
 #[derive(Clone, Copy)]
-pub(crate) struct LanePair {
-    pub(crate) first: u32,
-    pub(crate) second: u32,
-    ghost apart: { first ≢ second },
-    ghost first_below: { first < 64 },
-    ghost second_below: { second < 64 },
+pub(crate) struct RunDraw<'a> {
+    pub(crate) start: usize,
+    pub(crate) run: BoundRun,
+    pub(crate) sieve: &'a Sieve,
 }
 
-/// Faults, and then coins, of which those of a span are passed over.
-pub(crate) fn draw_pair<A: Allocator + Copy>(
-    faults: &mut [u64],
-    coins: &mut [u64],
-    passed: Span,
-    bounds: &FaultBounds<A>,
-    lanes: LanePair,
-    first: &mut Pcg64,
-    second: &mut Pcg64,
-)
-    requires { HasRoom passed bounds.now faults.old coins.old }
-    ensures faults { DrawsIntoBoth lanes.first lanes.second 0 (length bounds.now)
-        (fault_hits bounds.now first.old) (fault_hits bounds.now second.old)
-        faults.old faults.new }
-    ensures coins { DrawsIntoBoth lanes.first lanes.second 0 (length coins.old)
-        (coin_hits passed (after_words (length bounds.now) first.old))
-        (coin_hits passed (after_words (length bounds.now) second.old))
-        coins.old coins.new }
-    ensures first { first.new
-        ≡ after_words (length coins.old) (after_words (length bounds.now) first.old) }
-    ensures second { second.new
-        ≡ after_words (length coins.old) (after_words (length bounds.now) second.old) }
-{
-    draw_faults(faults, bounds, lanes, first, second);
-    draw_coins(coins, passed, lanes, first, second);
-}
+impl<'a> PairDraw for RunDraw<'a> {
+    ghost use Rattle.std.specs.Prelude.{◌+◌, ◌-◌, ◌≤◌, length};
+    ghost use Rattle.forward_sim.specs.private.BoundRuns.{bounds_of_run};
+    ghost use Rattle.forward_sim.specs.private.LaneDraws.{fault_hits};
 
-// A fault happens where its word is below its bound.
-fn draw_faults<A: Allocator + Copy>(
-    faults: &mut [u64],
-    bounds: &FaultBounds<A>,
-    lanes: LanePair,
-    first: &mut Pcg64,
-    second: &mut Pcg64,
-)
-    requires { length faults.old ≡ length bounds.now }
-    ensures { BothDrawn lanes.first lanes.second 0 bounds.now first.old second.old
-        faults.old faults.new first.new second.new }
-{
-    let runs = bounds.runs.as_slice();
-    let start = draw_runs(faults, runs, &bounds.sieve, lanes, first, second);
-    let greatest = bounds.greatest.as_slice();
-    draw_each(faults, start, greatest, lanes, first, second);
-}
+    ghost fits = { λ draw room. draw.start + draw.run.count ≤ room };
 
-// The same for the faults of some runs, which are the first ones. Returns how many there are.
-fn draw_runs(
-    faults: &mut [u64],
-    runs: &[BoundRun],
-    sieve: &Sieve,
-    lanes: LanePair,
-    first: &mut Pcg64,
-    second: &mut Pcg64,
-) -> usize
-    requires { length (bounds_in runs.now) ≤ length faults.old }
-    ensures count { result ≡ length (bounds_in runs.now) }
-    ensures drawn { BothDrawn lanes.first lanes.second 0 (bounds_in runs.now) first.old second.old
-        faults.old faults.new first.new second.new }
-{
-    let mut start = 0;
-    for r in 0..runs.len() {
-        let run = runs[r];
-        draw_run(faults, start, run, sieve, lanes, first, second);
-        start += run.count;
+    ghost start = { λ draw. draw.start };
+
+    ghost end = { λ draw. draw.start + length (bounds_of_run draw.run) };
+
+    ghost hits = { λ draw generator f. fault_hits (bounds_of_run draw.run) generator (f - draw.start) };
+
+    ghost taken = { λ draw. length (bounds_of_run draw.run) };
+
+    #[inline(always)]
+    fn draw(&self, words: &mut [u64], lanes: LanePair, first: &mut Pcg64, second: &mut Pcg64) {
+        draw_run(
+            words, self.start, self.run, self.sieve, lanes, first, second,
+        );
     }
-    start
 }
 
-// The same for the faults of one run.
+/// Faults each of which has a greatest word of its own, with which it happens, from this one on.
+#[derive(Clone, Copy)]
+pub(crate) struct EachDraw<'a> {
+    pub(crate) start: usize,
+    pub(crate) greatest: &'a [u64],
+}
+
+impl<'a> PairDraw for EachDraw<'a> {
+    ghost use Rattle.std.specs.Prelude.{◌+◌, ◌-◌, ◌≤◌, length};
+    ghost use Rattle.forward_sim.specs.private.BoundRuns.{bounds_above};
+    ghost use Rattle.forward_sim.specs.private.LaneDraws.{fault_hits};
+
+    ghost fits = { λ draw room. draw.start + length draw.greatest.now ≤ room };
+
+    ghost start = { λ draw. draw.start };
+
+    ghost end = { λ draw. draw.start + length (bounds_above draw.greatest.now) };
+
+    ghost hits = { λ draw generator f. fault_hits (bounds_above draw.greatest.now) generator (f - draw.start) };
+
+    ghost taken = { λ draw. length (bounds_above draw.greatest.now) };
+
+    #[inline(always)]
+    fn draw(&self, words: &mut [u64], lanes: LanePair, first: &mut Pcg64, second: &mut Pcg64) {
+        draw_each(words, self.start, self.greatest, lanes, first, second);
+    }
+}
+
+/// So many coins, of which those of a span are passed over.
+#[derive(Clone, Copy)]
+pub(crate) struct CoinDraw {
+    pub(crate) count: usize,
+    pub(crate) passed: Span,
+}
+
+impl PairDraw for CoinDraw {
+    ghost use Rattle.std.specs.Prelude.{◌≡◌, ◌≤◌};
+    ghost use Rattle.forward_sim.specs.private.LaneDraws.{coin_hits};
+
+    ghost fits = { λ draw room. (draw.count ≡ room) × (draw.passed.start ≤ draw.passed.end) × (draw.passed.end ≤ room) };
+
+    ghost start = { λ draw. 0 };
+
+    ghost end = { λ draw. draw.count };
+
+    ghost hits = { λ draw. coin_hits draw.passed };
+
+    ghost taken = { λ draw. draw.count };
+
+    #[inline(always)]
+    fn draw(&self, words: &mut [u64], lanes: LanePair, first: &mut Pcg64, second: &mut Pcg64) {
+        draw_coins(words, self.passed, lanes, first, second);
+    }
+}
+
+// The faults of one run.
 fn draw_run(
     faults: &mut [u64],
     start: usize,

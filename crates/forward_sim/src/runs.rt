@@ -6,6 +6,9 @@ ghost use Rattle.forward_sim.specs.Drawn.{bounds_of};
 use programs::{Program, Walk, next_fault};
 use std::alloc::{AllocError, Allocator};
 
+// A run of so many faults is drawn into all lanes before the next one is. So many words stay in the first-level cache.
+const LONGEST: usize = 4096;
+
 /// Faults one after another that have one bound.
 #[derive(Clone, Copy)]
 pub(crate) struct BoundRun {
@@ -61,7 +64,7 @@ fn count_fault<A: Allocator + Copy>(
         (bounds_in runs.new.items ++ bounds_of_run last.new
         ≡ (bounds_in runs.old.items ++ bounds_of_run last.old) ++ bound ∷ []) }
 {
-    if bound == last.bound {
+    if bound == last.bound && last.count < LONGEST {
         last.count += 1;
         return Ok(());
     }

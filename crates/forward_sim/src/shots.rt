@@ -20,9 +20,12 @@ pub struct Shots<A: Allocator + Copy> {
     passed: Span,
     faults: Vec<u64, A>,
     coins: Vec<u64, A>,
+    // 64, for the shots that are drawn at once
+    generators: Vec<Pcg64, A>,
 }
 
 impl<A: Allocator + Copy> Model for Shots<A> {
+    ghost use Rattle.std.specs.Prelude.{◌≡◌, length};
     ghost use Rattle.forward_sim.specs.private.LaneDraws.{HasRoom};
     ghost use Rattle.forward_sim.specs.Shots.{ShotWords};
 
@@ -30,7 +33,7 @@ impl<A: Allocator + Copy> Model for Shots<A> {
 
     ghost view = { λ s. record { bounds = s.bounds; passed = s.passed; faults = s.faults.items; coins = s.coins.items } };
 
-    ghost invariant = { λ s. HasRoom s.passed s.bounds s.faults.items s.coins.items };
+    ghost invariant = { λ s. HasRoom s.passed s.bounds s.faults.items s.coins.items × (length s.generators.items ≡ 64) };
 }
 
 impl<A: Allocator + Copy> Shots<A> {
@@ -50,11 +53,13 @@ impl<A: Allocator + Copy> Shots<A> {
         let bounds = FaultBounds::new(alloc, program)?;
         let faults = vec![in alloc; 0u64; program.fault_count() as usize]?;
         let coins = vec![in alloc; 0u64; program.collapse_count() as usize]?;
+        let generators = vec![in alloc; Pcg64::from_state(0, 0); 64]?;
         Ok(Shots {
             bounds,
             passed,
             faults,
             coins,
+            generators,
         })
     }
 
@@ -74,6 +79,7 @@ impl<A: Allocator + Copy> Shots<A> {
             &mut self.coins,
             self.passed,
             &self.bounds,
+            &mut self.generators,
             count,
             rng,
         );

@@ -4,8 +4,8 @@ use Rattle.forward_sim.specs.private.BoundRuns.{bounds_in}
 use Rattle.forward_sim.proofs.RunLemmas.{run_more, count_one}
 use Rattle.forward_sim.proofs.runs.count_fault.Goals as goal
 
-pub returns-then-bound-last : goal.returns-then-bound-last
-returns-then-bound-last g c = count_one (bounds_in c.args.runs.now.items) c.args.last.now c.args.bound c.if-bound-last.true
+pub returns-then-last-lt-LONGEST : goal.returns-then-last-lt-LONGEST
+returns-then-last-lt-LONGEST g c = count_one (bounds_in c.args.runs.now.items) c.args.last.now c.args.bound c.if-bound-last.true
 
 pub returns : goal.returns
 returns g c =

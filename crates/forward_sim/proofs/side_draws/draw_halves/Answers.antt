@@ -1,62 +1,77 @@
--- Each pair of shots goes into the next lanes of the halves.
-use Rattle.std.proofs.Common.{◌≡◌, ◌+◌, ◌*◌, length, replicate, sym, ap, ap₂, subst, ◌∙◌, arith}
+-- Lane l of a half is drawn by a generator that stands where the shot of that lane begins.
+use Rattle.std.proofs.Common.{◌≡◌, ◌+◌, ◌*◌, ◌-◌, ◌<◌, ℕ, length, replicate, sym, ap, ap₂, subst, ◌∙◌, arith}
+use Rattle.rand_pcg.specs.Lcg.{Lcg}
 use Rattle.forward_sim.specs.Drawn.{after_words, after_shots}
+use Rattle.forward_sim.specs.private.HalfDraws.{HalvesDrawn, generator_at}
 use Rattle.forward_sim.specs.private.LaneDraws.{coin_hits, fault_hits}
-use Rattle.forward_sim.specs.private.PairDraws.{DrawsIntoBoth}
-use Rattle.forward_sim.proofs.HalfLemmas.{HalvesDrawn, no_halves, one_more_each}
-use Rattle.forward_sim.proofs.SideLemmas.{none_taken, one_more_taken}
+use Rattle.forward_sim.proofs.HalfLemmas.{both_halves, generator_after, generators_count, halves_from_first, lanes_full}
+use Rattle.forward_sim.proofs.WordLemmas.{after_words-add}
 use Rattle.forward_sim.proofs.side_draws.draw_halves.Goals as goal
 
-pub loop-lane-init : goal.loop-lane-init
-loop-lane-init g c =
+pub returns-clause-drawn : goal.returns-clause-drawn
+returns-clause-drawn g c =
     let bounds = c.args.bounds.now in
     let n = length bounds in
     let collapses = length c.args.coins.now in
-    let half = c.args.half in
+    let half = length c.args.firsts.now in
     let from = c.args.rng.now in
-    let faults = c.fill.ensures.after (λ y h. h) in
-    let coins = c.fill-2.ensures.after (λ y h. h) in
-    let words : length c.fill.new.self + length c.fill-2.new.self ≡ n + collapses =
-    ap₂ (λ a b. a + b) (c.fill.ensures.len ∙ c.requires.room.faults_fit) c.fill-2.ensures.len in
-    let whole : half ≡ half + 0 = omega arith in
+    let firsts = c.set_apart.new.generators in
+    let seconds = c.set_apart-2.new.generators in
+    let firsts_then = c.draw_faults.new.firsts in
+    let seconds_then = c.draw_faults.new.seconds in
+    let blank = c.fill.ensures.after (λ y h. h) in
+    let blank_coins = c.fill-2.ensures.after (λ y h. h) in
+    let faults_fit = c.requires.room.faults_fit in
+    let count_faults : length c.fill.new.self ≡ n = c.fill.ensures.len ∙ faults_fit in
+    let count_coins : length c.fill-2.new.self ≡ collapses = c.fill-2.ensures.len in
+    let words : length c.fill.new.self + length c.fill-2.new.self ≡ n + collapses = ap₂ (λ a b. a + b) count_faults count_coins in
+    let size = c.set_apart.ensures.size in
+    let size_second : length seconds ≡ half = c.set_apart-2.ensures.size ∙ c.requires.halves in
+    let start : ℕ → Lcg = λ j. after_shots n collapses j from in
+    let starts : (l : ℕ) → l < half → generator_at firsts l ≡ start l =
+    λ l h. c.set_apart.ensures.each l h ∙ ap (λ w. after_words (l * w) from) words in
+    let starts_second : (l : ℕ) → l < half → generator_at seconds l ≡ start (half + l) =
+    λ l h.
+    let inside : l < length c.args.seconds.now = omega (arith, h, c.requires.halves) in
+    let all : half * (n + collapses) + l * (n + collapses) ≡ (half + l) * (n + collapses) = omega arith in
+    c.set_apart-2.ensures.each l inside
+    ∙ (ap₂ (λ w r. after_words (l * w) r) words (c.set_apart.ensures.taken ∙ ap (λ w. after_words (half * w) from) words)
+    ∙ (sym (after_words-add (half * (n + collapses)) (l * (n + collapses)) from)
+    ∙ ap (λ k. after_words k from) all)) in
+    let faults_drawn : HalvesDrawn half half 0 n (fault_hits bounds) firsts seconds c.fill.new.self c.draw_faults.new.faults =
+    halves_from_first half bounds firsts seconds c.fill.new.self c.draw_faults.new.faults
+    (subst (λ h. HalvesDrawn h h 0 (0 + n) (λ r f. fault_hits bounds r (f - 0)) firsts seconds c.fill.new.self c.draw_faults.new.faults) size c.draw_faults.ensures.drawn) in
+    let faults_full =
+    lanes_full half n (fault_hits bounds) firsts seconds c.fill.new.self c.draw_faults.new.faults (blank ∙ ap (λ k. replicate k 0) faults_fit) faults_drawn in
+    let size_then : length firsts_then ≡ half = generators_count n firsts firsts_then c.draw_faults.ensures.first ∙ size in
+    let coins_drawn : HalvesDrawn half half 0 collapses (coin_hits c.args.passed) firsts_then seconds_then c.fill-2.new.self c.draw_into_all.new.words =
+    subst (λ m. HalvesDrawn half half 0 m (coin_hits c.args.passed) firsts_then seconds_then c.fill-2.new.self c.draw_into_all.new.words) count_coins
+    (subst (λ h. HalvesDrawn h h 0 (length c.fill-2.new.self) (coin_hits c.args.passed) firsts_then seconds_then c.fill-2.new.self c.draw_into_all.new.words) size_then c.draw_into_all.ensures.drawn) in
+    let coins_full = lanes_full half collapses (coin_hits c.args.passed) firsts_then seconds_then c.fill-2.new.self c.draw_into_all.new.words blank_coins coins_drawn in
+    let starts_then : (l : ℕ) → l < half → generator_at firsts_then l ≡ after_words n (start l) =
+    λ l h. generator_after n l firsts firsts_then (omega (arith, h, size)) c.draw_faults.ensures.first ∙ ap (after_words n) (starts l h) in
+    let starts_second_then : (l : ℕ) → l < half → generator_at seconds_then l ≡ after_words n (start (half + l)) =
+    λ l h. generator_after n l seconds seconds_then (omega (arith, h, size_second)) c.draw_faults.ensures.second ∙ ap (after_words n) (starts_second l h) in
     record {
-      drawn =
-          subst (λ words. HalvesDrawn c.args.passed bounds collapses half 0 from c.fill.new.self words) (sym coins)
-          (subst (λ words. HalvesDrawn c.args.passed bounds collapses half 0 from words (replicate collapses 0)) (sym faults)
-          (no_halves c.args.passed bounds (length c.args.faults.now) collapses half from c.requires.room.faults_fit));
-      first = sym (none_taken n collapses from);
-      second =
-          c.advance.ensures
-          ∙ (ap₂ after_words (ap₂ (λ a b. a * b) c.from.ensures words) c.copy_of-second.ensures
-          ∙ ap (λ k. after_shots n collapses k from) whole);
+      fault_count = faults_full.size;
+      coin_count = coins_full.size;
+      faults = both_halves half n (fault_hits bounds) firsts seconds c.draw_faults.new.faults start faults_full starts starts_second;
+      coins = both_halves half collapses (coin_hits c.args.passed) firsts_then seconds_then c.draw_into_all.new.words (λ j. after_words n (start j)) coins_full starts_then starts_second_then;
+      idle_faults = λ j h m. faults_full.idle j (omega arith);
+      idle_coins = λ j h m. coins_full.idle j (omega arith);
     }
 
-pub loop-lane-preserved : goal.loop-lane-preserved
-loop-lane-preserved g c =
-    let bounds = c.args.bounds.now in
-    let n = length bounds in
+pub returns-clause-taken : goal.returns-clause-taken
+returns-clause-taken g c =
+    let n = length c.args.bounds.now in
     let collapses = length c.args.coins.now in
+    let half = length c.args.firsts.now in
     let from = c.args.rng.now in
-    let half = c.args.half in
-    let k = c.loop-lane.lane in
-    let j = half + k in
-    let so_far = c.loop-lane.invariant in
-    let shot = c.draw_pair.ensures in
-    let tossed = ap (after_words n) so_far.first in
-    let other_tossed = ap (after_words n) so_far.second in
-    let count = so_far.drawn.coin_count in
-    let next : j + 1 ≡ half + (k + 1) = omega arith in
-    let faults =
-    subst (λ r. DrawsIntoBoth k j 0 n (fault_hits bounds (after_shots n collapses k from)) (fault_hits bounds r) c.loop-lane.faults c.draw_pair.new.faults) so_far.second
-    (subst (λ r. DrawsIntoBoth k j 0 n (fault_hits bounds r) (fault_hits bounds c.loop-lane.second) c.loop-lane.faults c.draw_pair.new.faults) so_far.first shot.faults) in
-    let coins =
-    subst (λ m. DrawsIntoBoth k j 0 m (coin_hits c.args.passed (after_words n (after_shots n collapses k from))) (coin_hits c.args.passed (after_words n (after_shots n collapses j from))) c.loop-lane.coins c.draw_pair.new.coins) count
-    (subst (λ r. DrawsIntoBoth k j 0 (length c.loop-lane.coins) (coin_hits c.args.passed (after_words n (after_shots n collapses k from))) (coin_hits c.args.passed r) c.loop-lane.coins c.draw_pair.new.coins) other_tossed
-    (subst (λ r. DrawsIntoBoth k j 0 (length c.loop-lane.coins) (coin_hits c.args.passed r) (coin_hits c.args.passed (after_words n c.loop-lane.second)) c.loop-lane.coins c.draw_pair.new.coins) tossed shot.coins)) in
-    record {
-      drawn =
-          one_more_each c.args.passed bounds collapses half k from c.loop-lane.faults c.draw_pair.new.faults c.loop-lane.coins c.draw_pair.new.coins
-          (omega arith) c.requires.half so_far.drawn (record { faults = faults; coins = coins });
-      first = shot.first ∙ (ap₂ after_words count tossed ∙ one_more_taken n collapses k from);
-      second = shot.second ∙ (ap₂ after_words count other_tossed ∙ (one_more_taken n collapses j from ∙ ap (λ m. after_shots n collapses m from) next));
-    }
+    let words : length c.fill.new.self + length c.fill-2.new.self ≡ n + collapses =
+    ap₂ (λ a b. a + b) (c.fill.ensures.len ∙ c.requires.room.faults_fit) c.fill-2.ensures.len in
+    let all : half * (n + collapses) + half * (n + collapses) ≡ 2 * half * (n + collapses) = omega arith in
+    c.set_apart-2.ensures.taken
+    ∙ (ap₂ (λ h w. after_words (h * w) c.set_apart.new.rng) c.requires.halves words
+    ∙ (ap (after_words (half * (n + collapses))) (c.set_apart.ensures.taken ∙ ap (λ w. after_words (half * w) from) words)
+    ∙ (sym (after_words-add (half * (n + collapses)) (half * (n + collapses)) from)
+    ∙ ap (λ k. after_words k from) all)))

@@ -14,14 +14,15 @@ odd_is count odd = omega arith
 odd_more : (count : ℕ) → count % 2 ≡ 1 → count - 1 + 1 ≡ count
 odd_more count odd = omega arith
 
-pub returns-then-count-eq1 : goal.returns-then-count-eq1
-returns-then-count-eq1 g c =
+pub returns-then-count-eq1-clause-drawn : goal.returns-then-count-eq1-clause-drawn
+returns-then-count-eq1-clause-drawn g c =
     let bounds = c.args.bounds.now in
     let n = length bounds in
     let collapses = length c.args.coins.now in
     let from = c.args.rng.now in
     let k = c.args.count - 1 in
-    let pairs : k ≡ 2 * (c.args.count / 2) = odd_is c.args.count c.if-count-eq1.true in
+    let half : length c.split_at_mut-firsts.result.0.now ≡ c.args.count / 2 = c.split_at_mut-firsts.ensures.front_len in
+    let pairs : k ≡ 2 * length c.split_at_mut-firsts.result.0.now = odd_is c.args.count c.if-count-eq1.true ∙ ap (λ h. 2 * h) (sym half) in
     let whole : k + 1 ≡ c.args.count = odd_more c.args.count c.if-count-eq1.true in
     let so_far : AreDrawn c.args.passed bounds collapses k from c.draw_halves.new.faults c.draw_halves.new.coins =
     subst (λ m. AreDrawn c.args.passed bounds collapses m from c.draw_halves.new.faults c.draw_halves.new.coins) (sym pairs) c.draw_halves.ensures.drawn in
@@ -34,13 +35,20 @@ returns-then-count-eq1 g c =
     let coins =
     subst (λ m. DrawsInto k 0 m (coin_hits c.args.passed (after_words n (after_shots n collapses k from))) c.draw_halves.new.coins c.draw_coins.new.coins) so_far.coin_count
     (subst (λ r. DrawsInto k 0 (length c.draw_halves.new.coins) (coin_hits c.args.passed r) c.draw_halves.new.coins c.draw_coins.new.coins) tossed_from c.draw_coins.ensures.drawn) in
-    record {
-      drawn =
-          subst (λ m. AreDrawn c.args.passed bounds collapses m from c.draw_faults.new.faults c.draw_coins.new.coins) whole
-          (one_more_drawn c.args.passed bounds collapses k from c.draw_halves.new.faults c.draw_faults.new.faults c.draw_halves.new.coins c.draw_coins.new.coins
-          (omega (arith, c.requires.count)) so_far faults coins);
-      taken =
-          c.draw_coins.ensures.taken
-          ∙ (ap₂ after_words so_far.coin_count tossed_from
-          ∙ (one_more_taken n collapses k from ∙ ap (λ m. after_shots n collapses m from) whole));
-    }
+    subst (λ m. AreDrawn c.args.passed bounds collapses m from c.draw_faults.new.faults c.draw_coins.new.coins) whole
+    (one_more_drawn c.args.passed bounds collapses k from c.draw_halves.new.faults c.draw_faults.new.faults c.draw_halves.new.coins c.draw_coins.new.coins
+    (omega (arith, c.requires.count)) so_far faults coins)
+
+pub returns-then-count-eq1-clause-taken : goal.returns-then-count-eq1-clause-taken
+returns-then-count-eq1-clause-taken g c =
+    let n = length c.args.bounds.now in
+    let collapses = length c.args.coins.now in
+    let from = c.args.rng.now in
+    let k = c.args.count - 1 in
+    let half : length c.split_at_mut-firsts.result.0.now ≡ c.args.count / 2 = c.split_at_mut-firsts.ensures.front_len in
+    let pairs : k ≡ 2 * length c.split_at_mut-firsts.result.0.now = odd_is c.args.count c.if-count-eq1.true ∙ ap (λ h. 2 * h) (sym half) in
+    let whole : k + 1 ≡ c.args.count = odd_more c.args.count c.if-count-eq1.true in
+    let at = c.draw_halves.ensures.taken ∙ ap (λ m. after_shots n collapses m from) (sym pairs) in
+    c.draw_coins.ensures.taken
+    ∙ (ap₂ after_words c.draw_halves.ensures.drawn.coin_count (c.draw_faults.ensures.taken ∙ ap (after_words n) at)
+    ∙ (one_more_taken n collapses k from ∙ ap (λ m. after_shots n collapses m from) whole))
