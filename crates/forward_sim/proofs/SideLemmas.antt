@@ -8,7 +8,7 @@ use Rattle.bit_rows.specs.Lanes.{lane}
 use Rattle.forward_sim.specs.Drawn.{after_words, drawn_faults, after_shots}
 use Rattle.forward_sim.specs.private.LaneDraws.{DrawsInto, coin_hits, fault_hits}
 use Rattle.forward_sim.specs.Shots.{AreDrawn, tossed_coins}
-use Rattle.forward_sim.proofs.WordLemmas.{after_words-add}
+use Rattle.forward_sim.proofs.WordLemmas.{after_words-none, after_words-add}
 use Rattle.forward_sim.proofs.LaneLemmas.{lane_drawn, lane_kept}
 
 pub one_more_drawn : (passed : Span) (bounds : List ℕ) (collapses k : ℕ) (g : Lcg) (faults faults_then coins coins_then : List ℕ) → k < 64
@@ -42,6 +42,12 @@ one_more_drawn passed bounds collapses k g faults faults_then coins coins_then b
       idle_coins = λ j h l.
           lane_kept j k 0 collapses coin_bits coins coins_then (λ e. omega arith) c ∙ so_far.idle_coins j (omega arith) l;
     }
+
+-- where the generator is left
+pub none_taken : (faults collapses : ℕ) (g : Lcg) → after_shots faults collapses 0 g ≡ g
+none_taken faults collapses g =
+    let none : 0 * (faults + collapses) ≡ 0 = omega arith in
+    ap (λ n. after_words n g) none ∙ after_words-none g
 
 pub one_more_taken : (faults collapses k : ℕ) (g : Lcg)
     → after_words collapses (after_words faults (after_shots faults collapses k g)) ≡ after_shots faults collapses (k + 1) g
