@@ -237,6 +237,8 @@ impl<S: TargetSet, A: Allocator + Copy> Tracker for Words<S, A> {
         match gate {
             // The commonest, whose images the compiler then knows.
             Gate::CX => self.multiply(a, b, (Letter::I, Letter::Z), (Letter::X, Letter::I)),
+            Gate::CZ => self.multiply(a, b, (Letter::Z, Letter::I), (Letter::Z, Letter::I)),
+            Gate::Swap => self.exchange(a, b, (Letter::X, Letter::Z), (Letter::X, Letter::Z)),
             _ => self.undo_by_table(gate, a, b),
         }
     }
