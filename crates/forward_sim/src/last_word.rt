@@ -3,7 +3,6 @@ ghost use Rattle.pauli_word.specs.declared.letter.Letter.TheVariants.{X, Z};
 ghost use Rattle.tableau.specs.Rows.{row_count, stabilizer_at};
 ghost use Rattle.forward_sim.specs.private.Kept.{clashing, terms_listed, terms_of_word};
 
-use pauli_word::Letter;
 use std::alloc::{AllocError, Allocator};
 use std::marker::Model;
 use tableau::Tableau;
@@ -107,11 +106,11 @@ fn list_letters<A: Allocator + Copy>(
     let mut xs_end = 1;
     let mut zs_end = 0;
     for qubit in 0..tableau.len() {
-        let letter = tableau.stabilizer_letter(row, qubit);
+        let (with_z, with_x) = tableau.stabilizer_clashes(row, qubit);
         xs[xs_end] = qubit as u16;
-        xs_end = after(xs_end, letter.clashes(Letter::Z));
+        xs_end = after(xs_end, with_z);
         zs[zs_end] = qubit as u16;
-        zs_end = after(zs_end, letter.clashes(Letter::X));
+        zs_end = after(zs_end, with_x);
     }
     (xs_end, zs_end)
 }

@@ -26,16 +26,16 @@ pub(crate) fn decode<A: Allocator + Copy>(rows: &Vec<Pair<A>, A>, row: usize, wo
     word.set_sign(false);
 }
 
-/// The letter, at the qubit of this pair, of the word whose code is Z at `row`.
+/// Whether the letter, at the qubit of this pair, of the word whose code is Z at `row` clashes with Z, and whether with X.
 #[inline(always)]
-pub(crate) fn stabilizer_letter<A: Allocator + Copy>(pair: &Pair<A>, row: usize) -> Letter
+pub(crate) fn stabilizer_clashes<A: Allocator + Copy>(pair: &Pair<A>, row: usize) -> (bool, bool)
     requires x { row < length pair.now.0.letters }
     requires z { row < length pair.now.1.letters }
-    ensures { result
+    ensures { letter_of result.0 result.1
         ≡ letter_of (letters_clash (letter_at pair.now.1.letters row) Z)
         (letters_clash (letter_at pair.now.0.letters row) Z) }
 {
-    Letter::of_bits(pair.1.has_x_or_y(row), pair.0.has_x_or_y(row))
+    (pair.1.has_x_or_y(row), pair.0.has_x_or_y(row))
 }
 
 // The letter, at the qubit of this pair, of the word whose code is X at `row`.

@@ -2,6 +2,8 @@ ghost use Rattle.std.specs.Prelude.{◌≡◌, ◌≢◌, ◌<◌, true, false, 
 ghost use Rattle.gate_table.specs.Images.{arity_of};
 ghost use Rattle.gate_table.specs.WordImages.{preimage_at, preimage_at_two};
 ghost use Rattle.pauli_word.specs.States.{start_state, applied, collapsed, correcting, outcome};
+ghost use Rattle.pauli_word.specs.declared.letter.Letter.TheVariants.{X, Z};
+ghost use Rattle.pauli_word.specs.Letters.{letters_clash};
 ghost use Rattle.pauli_word.specs.Words.{letter_at, lone_letter, signed};
 ghost use Rattle.tableau.specs.Rows.{row_count, state_of, stabilizer_at, destabilizer_at, HasState, NamesRandom, IsCollapsed};
 
@@ -9,7 +11,7 @@ pub mod laws;
 
 use crate::codes::{encode, encode_letter, sign_seen};
 use crate::collapse::collapse_code;
-use crate::decode::{decode, stabilizer_letter};
+use crate::decode::{decode, stabilizer_clashes};
 use crate::gates::{apply_letters, apply_one, apply_two};
 use crate::measure::measure_code;
 use crate::pairs::{Pair, identity_pair, restart_pairs, start_pairs};
@@ -246,13 +248,14 @@ impl<A: Allocator + Copy> Tableau<A> {
         decode(&self.rows, row, word);
     }
 
-    /// The letter of a row's stabilizer at a qubit.
+    /// Whether the letter of a row's stabilizer at a qubit clashes with Z, as X and Y do, and whether with X, as Z and Y do.
     #[inline(always)]
-    pub fn stabilizer_letter(&self, row: usize, qubit: usize) -> Letter
+    pub fn stabilizer_clashes(&self, row: usize, qubit: usize) -> (bool, bool)
         requires row { row < row_count self.now }
         requires qubit { qubit < row_count self.now }
-        ensures { result ≡ letter_at (stabilizer_at self.now row).letters qubit }
+        ensures z { result.0 ≡ letters_clash (letter_at (stabilizer_at self.now row).letters qubit) Z }
+        ensures x { result.1 ≡ letters_clash (letter_at (stabilizer_at self.now row).letters qubit) X }
     {
-        stabilizer_letter(&self.rows[qubit], row)
+        stabilizer_clashes(&self.rows[qubit], row)
     }
 }
