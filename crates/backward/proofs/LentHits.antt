@@ -30,3 +30,7 @@ line_for_reversed text ts some = line_for_some text (reverse ts) (ap (λ n. n ==
 pub noted_none : (value : ℕ) (hit ts : List ℕ) (found : List (Option ℕ)) → reverse hit ≡ ts → (length hit == 0) ≡ true → found ≡ noted value ts found
 noted_none value [] ts found is none = ap (λ l. noted value l found) is
 noted_none value (t ∷ hit) ts found is none = absurd (omega (arith, eqb-true (suc (length hit)) 0 none))
+
+pub none_hit : (hit ts : List ℕ) → reverse hit ≡ ts → (length hit == 0) ≡ true → [] ≡ ts
+none_hit [] ts is none = is
+none_hit (t ∷ hit) ts is none = absurd (omega (arith, eqb-true (suc (length hit)) 0 none))

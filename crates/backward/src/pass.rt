@@ -105,6 +105,12 @@ fn feedback<'s, 'p, 'a, A: Allocator + Copy, T: Tracker>(
     }
     program.well_formed();
     let _few = target_count(program);
+    // Most letters hit no target.
+    if let Some(hit) = at.tracker.kept_hit(&[term])
+        && hit.is_empty()
+    {
+        return Ok(());
+    }
     at.tracker.hit(&[term], &mut found.hit)?;
     found.lists.toggle_each(rec as usize, found.hit.as_slice())
 }

@@ -1,8 +1,11 @@
 use Rattle.std.proofs.Common.{◌≡◌, ◌+◌, ◌<◌, ◌∷◌, [], List, length, drop, get_or, refl, subst, sym, ◌∙◌, arith}
 use Rattle.std.specs.Prelude.{All}
+use Rattle.std.proofs.lemmas.List.{set-get_or}
 use Rattle.std.proofs.lemmas.Result.{err_from_is_err_and, on_ok_weaker}
 use Rattle.step_model.specs.declared.step.Term.{Term}
 use Rattle.step_model.specs.Targets.{targets_of}
+use Rattle.trackers.specs.Tracked.{anticommuting}
+use Rattle.backward.proofs.LentHits.{none_hit}
 use Rattle.backward.proofs.PassPlaces.{hit_in_range}
 use Rattle.backward.proofs.PassSteps.{passed-fed, passed-feedback, words_of_size}
 use Rattle.backward.proofs.StepLemmas.{stays_as, undone_failed}
@@ -14,6 +17,22 @@ returns-then-found g c =
     record {
       walk = refl;
       passed = passed-feedback c.args.program.now.listing at.walk.place (g.T.Tracker.tracked at.tracker) c.args.found.now c.requires.passed c.args.term c.args.rec _ c.requires.step c.if-found.true refl;
+      stays = stays_as refl refl refl;
+    }
+
+-- nothing changes where no target is hit
+pub returns : goal.returns
+returns g c =
+    let at = c.args.at.now in
+    let t = g.T.Tracker.tracked at.tracker in
+    let found = c.args.found.now in
+    let terms : List Term = c.args.term ∷ [] in
+    let p = passed-fed c.args.program.now.listing at.walk.place t found c.requires.passed c.args.term c.args.rec t found.lists [] c.requires.step c.if-found.false refl
+    (none_hit c.in-Some.hit.now (anticommuting terms t) c.in-Some.ensures (sym c.is_empty.ensures ∙ c.if-is_empty.true))
+    (sym (set-get_or found.lists c.args.rec [])) in
+    record {
+      walk = refl;
+      passed = record { within = p.0; words = p.1; lists = p.2; judged = p.3 };
       stays = stays_as refl refl refl;
     }
 
@@ -33,8 +52,8 @@ toggle_each-requires-clause-targets g c =
     (subst (All (λ t. t < length (targets_of program))) (sym (c.as_slice.ensures.value ∙ c.in_ok-hit.ensures.hit))
     (hit_in_range program terms tracked (words_of_size program (drop (at.walk.place + 1) program.steps) tracked c.requires.passed.words)))
 
-pub returns : goal.returns
-returns g c =
+pub returns-2 : goal.returns-2
+returns-2 g c =
     let at = c.args.at.now in
     record {
       walk = refl;

@@ -1,5 +1,5 @@
 -- Each turn takes the last part, whose steps are before those of the others: `last` says so.
-use Rattle.std.proofs.Common.{◌≡◌, ◌≤◌, ◌++◌, refl, ap, ap₂, subst, sym, ◌∙◌, arith}
+use Rattle.std.proofs.Common.{◌≤◌, ◌++◌, refl, ap, ap₂, subst, sym, ◌∙◌, arith}
 use Rattle.std.specs.Option.{option_to_list}
 use Rattle.step_model.proofs.Pushing.{Pushes-nil, Pushes-trans}
 use Rattle.backward.specs.private.Passes.{records_before}
