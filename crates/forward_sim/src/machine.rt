@@ -22,7 +22,7 @@ use tableau::WaitingTableau;
 // So many turns of measurements wait at most, where there are so many qubits: the rows of fewer stay in the near caches anyway.
 const TURNS_THAT_WAIT: usize = 16;
 
-const MANY_QUBITS: usize = 1024;
+const MANY_QUBITS: usize = 256;
 
 /// What a run holds between two steps. All of its memory is taken before the first step.
 pub(crate) struct Machine<'c, A: Allocator + Copy> {

@@ -15,7 +15,7 @@ use crate::decode::{decode, stabilizer_letter};
 use crate::gates::{apply_letters, apply_one, apply_two};
 use crate::measure::{measure_code, set_turn};
 use crate::pairs::{Pair, identity_pair, replace, restart_pairs, set_word, start_pairs};
-use crate::waiting_turns::{Origin, Turn, turn_pair_by_all, turn_rows_by_all};
+use crate::waiting_turns::{Origin, Turn, seems_dense, turn_pair_by_all, turn_rows_by_all};
 use gate_table::Gate;
 use pauli_word::{Letter, Word};
 use std::alloc::{AllocError, Allocator};
@@ -268,6 +268,17 @@ impl<A: Allocator + Copy> Tableau<A> {
             seen None) }
     {
         sign_seen(&self.rows[qubit], letter)
+    }
+
+    // Whether the row of a letter at a qubit seems dense; that of X stands for that of Y.
+    fn seems_dense(&self, letter: Letter, qubit: usize) -> bool
+        requires { qubit < row_count self.now }
+    {
+        let pair = &self.rows[qubit];
+        match letter {
+            Letter::Z => seems_dense(&pair.1, self.rows.len()),
+            _ => seems_dense(&pair.0, self.rows.len()),
+        }
     }
 
     // Makes turns that waited.

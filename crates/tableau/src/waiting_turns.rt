@@ -41,6 +41,27 @@ pub(crate) fn identity_turns<A: Allocator + Copy>(
     Ok(turns)
 }
 
+// How many letters of a word are looked at, how far apart, and how many make it dense.
+const LOOKED_AT: usize = 32;
+
+const APART: usize = 127;
+
+const MANY: usize = 8;
+
+/// Whether a word of `n` letters seems to have them at many qubits, by a look at some.
+pub(crate) fn seems_dense<A: Allocator + Copy>(word: &Word<A>, n: usize) -> bool
+    requires size { length word.now.letters ≡ n }
+    requires some { 0 < n }
+{
+    let mut seen = 0;
+    for place in 0..LOOKED_AT {
+        if word.letter(place * APART % n) != Letter::I {
+            seen += 1;
+        }
+    }
+    MANY <= seen
+}
+
 // The letter that was measured at a qubit.
 #[inline(always)]
 fn measured_at(origin: Origin, qubit: usize) -> Letter

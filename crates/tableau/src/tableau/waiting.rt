@@ -14,6 +14,9 @@ use pauli_word::{Letter, Word};
 use std::alloc::{AllocError, Allocator};
 use std::marker::Model;
 
+// For so many decided outcomes turns wait at most.
+const MOST_DECIDED: usize = 16;
+
 /// A tableau that many measurements with random outcomes change in one pass over its rows. It does what `Tableau` does.
 ///
 /// The turns of measured letters wait until there is no room for more, or until anything else is asked. A letter measured
@@ -23,6 +26,8 @@ pub struct WaitingTableau<A: Allocator + Copy> {
     // the first `waiting` of these wait
     turns: Vec<Turn<A>, A>,
     waiting: usize,
+    // how many outcomes were decided since a turn last came to wait
+    decided: usize,
 }
 
 impl<A: Allocator + Copy> Model for WaitingTableau<A> {
@@ -43,6 +48,7 @@ impl<A: Allocator + Copy> Drop for WaitingTableau<A> {
             tableau,
             turns,
             waiting: _,
+            decided: _,
         } = self;
         drop(tableau);
         drop(turns);
@@ -61,6 +67,7 @@ impl<A: Allocator + Copy> WaitingTableau<A> {
             tableau,
             turns,
             waiting: 0,
+            decided: 0,
         })
     }
 
@@ -133,21 +140,31 @@ impl<A: Allocator + Copy> WaitingTableau<A> {
         ensures state { HasState self.new.rows
             (collapsed (lone_letter (row_count self.old.rows) qubit letter) coin (state_of self.old.rows)) }
     {
-        if self.turns.is_empty() {
-            settle(&mut self.tableau, self.turns.as_slice(), &mut self.waiting);
-            return self.tableau.measure(letter, qubit, coin);
-        }
         if let Some(outcome) = outcome_seen(&self.tableau, self.waiting, letter, qubit) {
             return outcome;
         }
-        measure_waiting(
+        let waiting = self.waiting;
+        if !shall_wait(
+            &self.tableau,
+            self.turns.len(),
+            waiting,
+            self.decided,
+            letter,
+            qubit,
+        ) {
+            settle(&mut self.tableau, self.turns.as_slice(), &mut self.waiting);
+            return self.tableau.measure(letter, qubit, coin);
+        }
+        let outcome = measure_waiting(
             &mut self.tableau,
             self.turns.as_mut_slice(),
             &mut self.waiting,
             letter,
             qubit,
             coin,
-        )
+        );
+        self.decided = decided_by_now(self.decided, waiting, self.waiting);
+        outcome
     }
 
     /// Measures a word as if its sign were plus, and answers the outcome.
@@ -221,6 +238,34 @@ fn outcome_seen<A: Allocator + Copy>(
         return None;
     }
     tableau.outcome_seen(letter, qubit)
+}
+
+// Whether the turn of a measurement shall wait. A sparse one is made in hardly more than a look at each row. And a decided outcome takes
+// longer where turns wait, so they don't wait for many of these.
+fn shall_wait<A: Allocator + Copy>(
+    tableau: &Tableau<A>,
+    room: usize,
+    waiting: usize,
+    decided: usize,
+    letter: Letter,
+    qubit: usize,
+) -> bool
+    requires { qubit < row_count tableau.now }
+    ensures { result ≡ true → 0 < room }
+{
+    if waiting > 0 {
+        return room > 0 && decided < MOST_DECIDED;
+    }
+    room > 0 && tableau.seems_dense(letter, qubit)
+}
+
+// How many outcomes were decided since a turn last came to wait, after a measurement before and after which so many waited.
+fn decided_by_now(decided: usize, before: usize, after: usize) -> usize {
+    if before == after {
+        decided.wrapping_add(1)
+    } else {
+        0
+    }
 }
 
 // Measures a letter at a qubit, while turns wait.
