@@ -46,20 +46,23 @@ pub(crate) fn read_replaced<A: Allocator + Copy>(
 
 // Reads the stabilizer that a collapse may replace, if there is one.
 fn read_row<A: Allocator + Copy>(
-    machine: &Machine<'_, A>,
+    machine: &mut Machine<'_, A>,
     word: &mut LastWord<A>,
     row: Option<usize>,
 )
-    requires inside { IfSome row (λ r. r < qubit_count machine.now) }
-    requires room { qubit_count machine.now ≤ word.old.room }
+    requires inside { IfSome row (λ r. r < qubit_count machine.old) }
+    requires room { qubit_count machine.old ≤ word.old.room }
+    ensures same { machine.new ≡ machine.old }
     ensures room { word.new.room ≡ word.old.room }
-    ensures long { IfSome row (λ r. length (stabilizer_at machine.now.rows r).letters
-        ≡ qubit_count machine.now) }
-    ensures read { entry_of word.new.terms ≡ entry_for machine.now.rows row }
+    ensures long { IfSome row (λ r. length (stabilizer_at machine.old.rows r).letters
+        ≡ qubit_count machine.old) }
+    ensures read { entry_of word.new.terms ≡ entry_for machine.old.rows row }
 {
-    rows_have_all_letters(&machine.tableau);
+    machine.tableau.settle();
+    let tableau = machine.tableau.settled();
+    rows_have_all_letters(tableau);
     match row {
-        Some(row) => word.read(&machine.tableau, row),
+        Some(row) => word.read(tableau, row),
         None => word.clear(),
     }
 }

@@ -17,11 +17,16 @@ use std::alloc::{AllocError, Allocator};
 use std::marker::Model;
 use std::mem;
 use step_model::Term;
-use tableau::Tableau;
+use tableau::WaitingTableau;
+
+// So many turns of measurements wait at most, where there are so many qubits: the rows of fewer stay in the near caches anyway.
+const TURNS_THAT_WAIT: usize = 16;
+
+const MANY_QUBITS: usize = 256;
 
 /// What a run holds between two steps. All of its memory is taken before the first step.
 pub(crate) struct Machine<'c, A: Allocator + Copy> {
-    pub(crate) tableau: Tableau<A>,
+    pub(crate) tableau: WaitingTableau<A>,
     // a spare word, for products that are measured
     pub(crate) word: Word<A>,
     // those of the collapses to come
@@ -36,9 +41,9 @@ impl<'c, A: Allocator + Copy> Model for Machine<'c, A> {
 
     ghost Value = { Running };
 
-    ghost view = { λ m. record { rows = m.tableau; coins = m.coins.now; records = m.records.items; room = vec_capacity m.records } };
+    ghost view = { λ m. record { rows = m.tableau.rows; coins = m.coins.now; records = m.records.items; room = vec_capacity m.records } };
 
-    ghost invariant = { λ m. length m.word.letters ≡ row_count m.tableau };
+    ghost invariant = { λ m. length m.word.letters ≡ row_count m.tableau.rows };
 }
 
 // Written out, so that it is a call in the proof of each function that owns one.
@@ -68,9 +73,43 @@ impl<'c, A: Allocator + Copy> Machine<'c, A> {
         ensures room { IfOk result (λ m. m.room ≡ records) }
         ensures run { IfOk result (λ m. IsSameRun qubits (run_of m) (start coins.now)) }
     {
+        let turns = if qubits < MANY_QUBITS {
+            0
+        } else {
+            TURNS_THAT_WAIT
+        };
+        Machine::with_turns(alloc, qubits, records, coins, turns)
+    }
+
+    /// The same of a machine whose tableau is read between steps: no measurement waits.
+    pub(crate) fn start_to_be_read(
+        alloc: A,
+        qubits: usize,
+        records: usize,
+        coins: &'c [bool],
+    ) -> Result<Self, AllocError>
+        ensures qubits { IfOk result (λ m. qubit_count m ≡ qubits) }
+        ensures room { IfOk result (λ m. m.room ≡ records) }
+        ensures run { IfOk result (λ m. IsSameRun qubits (run_of m) (start coins.now)) }
+    {
+        Machine::with_turns(alloc, qubits, records, coins, 0)
+    }
+
+    // With room for so many turns that wait.
+    fn with_turns(
+        alloc: A,
+        qubits: usize,
+        records: usize,
+        coins: &'c [bool],
+        turns: usize,
+    ) -> Result<Self, AllocError>
+        ensures qubits { IfOk result (λ m. qubit_count m ≡ qubits) }
+        ensures room { IfOk result (λ m. m.room ≡ records) }
+        ensures run { IfOk result (λ m. IsSameRun qubits (run_of m) (start coins.now)) }
+    {
         let records = Vec::with_capacity(alloc, records)?;
         let word = Word::identity(alloc, qubits)?;
-        let tableau = Tableau::start(alloc, qubits)?;
+        let tableau = WaitingTableau::start(alloc, qubits, turns)?;
         Ok(Machine {
             tableau,
             word,

@@ -54,7 +54,8 @@ impl<A: Allocator + Copy> WalkingRun<A> {
     {
         let qubits = program.qubits() as usize;
         let word = LastWord::new(alloc, qubits)?;
-        let machine = Machine::start(alloc, qubits, program.record_count() as usize, &[])?;
+        let records = program.record_count() as usize;
+        let machine = Machine::start_to_be_read(alloc, qubits, records, &[])?;
         Ok(WalkingRun { machine, word })
     }
 

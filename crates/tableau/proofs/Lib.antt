@@ -25,3 +25,6 @@ pub mod ControlledRows
 pub mod ControlledGates
 pub mod SeenOutcomes
 pub mod NewSizes
+pub mod WaitingLaws
+pub mod WaitingMeasurements
+pub mod WaitingSteps

@@ -8,7 +8,7 @@ use Rattle.pauli_word.proofs.LoneLetters.{length-lone_letter}
 use Rattle.tableau.specs.private.Decoding.{rows_seen}
 use Rattle.tableau.specs.private.Encoding.{Pair, word_of, IsTableau}
 use Rattle.tableau.specs.private.EncodingSteps.{after_collapse, code_of, collapsed_at, outcome_at, IsDiagonal}
-use Rattle.tableau.specs.Rows.{Rows, row_count}
+use Rattle.tableau.specs.Rows.{Rows, row_count, IsCollapsed}
 use Rattle.tableau.proofs.KeptRows.{Collapses, lone_code, collapses}
 
 module _ (rows : List Pair) (old : Rows) (is : IsTableau (length rows) rows) (same : rows_seen rows ≡ old) (q : ℕ) (h : q < length rows) (r : Pair) (r_is : r ≡ get_or rows q r) (a : Letter) (coin minus : Bool) (diagonal : IsDiagonal (word_of (length rows) r a) minus) where
@@ -38,3 +38,10 @@ sign_of_X (Some minus) r a e is = λ n. subst (λ b. IsDiagonal (word_of n r b) 
 pub sign_of_Z : (o : Option Bool) (r : Pair) (a : Letter) → a ≡ Z → IfSome o (IsDiagonal r.1) → IfSome o (λ minus. (n : ℕ) → IsDiagonal (word_of n r a) minus)
 sign_of_Z None r a e is = tt
 sign_of_Z (Some minus) r a e is = λ n. subst (λ b. IsDiagonal (word_of n r b) minus) (sym e) is
+
+-- what is owed by any coin, where a sign was seen
+pub seen_owed : (rows : List Pair) (old : Rows) (is : IsTableau (length rows) rows) (same : rows_seen rows ≡ old) (q : ℕ) (h : q < length rows) (r : Pair) (r_is : r ≡ get_or rows q r) (a : Letter) (o : Option Bool) → IfSome o (λ minus. (n : ℕ) → IsDiagonal (word_of n r a) minus) → IfSome o (λ minus. (coin : Bool) → IsCollapsed old old (lone_letter (row_count old) q a) coin minus None)
+seen_owed rows old is same q h r r_is a None diagonal = tt
+seen_owed rows old is same q h r r_is a (Some minus) diagonal = λ coin.
+    subst (λ new. IsCollapsed old new (lone_letter (row_count old) q a) coin minus None) same
+    (seen rows old is same q h r r_is a coin minus (diagonal (length rows))).owed

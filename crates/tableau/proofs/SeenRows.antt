@@ -89,7 +89,7 @@ module _ (rows : List Pair) (is : IsTableau (length rows) rows) where
   pub seen_size : row_count (rows_seen rows) ≡ n
   seen_size = count_seen n pairs (seen_count n rows is)
 
-  decoded_seen : (p : Signed) → length p.letters ≡ n → decoded n pairs p ≡ encoded n rows p
+  pub decoded_seen : (p : Signed) → length p.letters ≡ n → decoded n pairs p ≡ encoded n rows p
   decoded_seen p h =
       let encodes = seen_encodes n rows is in
       let q = decoded n pairs p in

@@ -23,7 +23,7 @@ stays_keeps : (n : ℕ) → KeepsWords n (λ p. p)
 stays_keeps n =
     record { size = λ p h. h; identity = λ b. refl; anticommuting = λ p q h k. refl; product = λ p q h k. refl }
 
-stays_clifford : (n : ℕ) → IsClifford n (λ p. p)
+pub stays_clifford : (n : ℕ) → IsClifford n (λ p. p)
 stays_clifford n =
     record { keeps = stays_keeps n; back = λ p. p; back_keeps = stays_keeps n; left = λ p h. refl; right = λ p h. refl }
 

@@ -79,3 +79,8 @@ pub record IsCollapsed (old new : Rows) (w : List Letter) (coin seen : Bool) (ro
   pub state_is : HasState new (collapsed w coin (state_of old))
   pub named : NamesRandom old w row
   pub becomes_destabilizer : IfSome row (λ k. (destabilizer_at new k).letters ≡ (stabilizer_at old k).letters)
+
+-- rows of which some changes wait to be made in memory, and how many of them do
+pub record WaitingRows : Type 0 where
+  pub rows : Rows
+  pub waiting : ℕ

@@ -3,3 +3,4 @@ pub mod ControlledSteps
 pub mod Decoding
 pub mod Encoding
 pub mod EncodingSteps
+pub mod Waiting

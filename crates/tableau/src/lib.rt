@@ -10,5 +10,6 @@ mod gates;
 mod measure;
 mod pairs;
 mod tableau;
+mod waiting_turns;
 
-pub use tableau::{Tableau, laws};
+pub use tableau::{Tableau, WaitingTableau, laws};

@@ -44,7 +44,7 @@ pub(crate) fn measure_code<A: Allocator + Copy>(
 }
 
 // Makes the second word Z at the qubit times the first, whose sign is changed where the coin is 1.
-fn set_turn<A: Allocator + Copy>(code: &mut Pair<A>, qubit: usize, coin: bool)
+pub(crate) fn set_turn<A: Allocator + Copy>(code: &mut Pair<A>, qubit: usize, coin: bool)
     requires inside { qubit < length code.old.0.letters }
     requires size { HasLength (length code.old.0.letters) code.old }
     ensures first { code.new.0 ≡ with_sign_changed coin code.old.0 }
@@ -98,7 +98,7 @@ fn measured_at<A: Allocator + Copy>(word: &Word<A>, only: Option<usize>, qubit: 
 
 // Few qubits are measured, so that mostly the letter stands as a constant.
 #[inline(always)]
-fn turn_pair<A: Allocator + Copy>(
+pub(crate) fn turn_pair<A: Allocator + Copy>(
     pair: &mut Pair<A>,
     turn: &Word<A>,
     qubit: usize,

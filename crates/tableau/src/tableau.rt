@@ -1,4 +1,4 @@
-ghost use Rattle.std.specs.Prelude.{◌≡◌, ◌≢◌, ◌<◌, true, false, length, IfOk};
+ghost use Rattle.std.specs.Prelude.{◌≡◌, ◌≢◌, ◌<◌, Bool, true, false, length, None, IfOk, IfSome};
 ghost use Rattle.gate_table.specs.Images.{arity_of};
 ghost use Rattle.gate_table.specs.WordImages.{preimage_at, preimage_at_two};
 ghost use Rattle.pauli_word.specs.States.{start_state, applied, collapsed, correcting, outcome};
@@ -6,19 +6,23 @@ ghost use Rattle.pauli_word.specs.declared.letter.Letter.TheVariants.{X, Z};
 ghost use Rattle.pauli_word.specs.Letters.{letters_clash};
 ghost use Rattle.pauli_word.specs.Words.{letter_at, lone_letter, signed};
 ghost use Rattle.tableau.specs.Rows.{row_count, state_of, stabilizer_at, destabilizer_at, HasState, NamesRandom, IsCollapsed};
+ghost use Rattle.tableau.specs.private.Waiting.{outcome_by, turned_by, turns_by, AreTurns, IsSized, Measures};
 
 pub mod laws;
+mod waiting;
 
 use crate::codes::{encode, encode_letter, sign_seen};
 use crate::collapse::collapse_code;
 use crate::decode::{decode, stabilizer_clashes};
 use crate::gates::{apply_letters, apply_one, apply_two};
-use crate::measure::measure_code;
-use crate::pairs::{Pair, identity_pair, restart_pairs, start_pairs};
+use crate::measure::{measure_code, set_turn};
+use crate::pairs::{Pair, identity_pair, replace, restart_pairs, set_word, start_pairs};
+use crate::waiting_turns::{Origin, Turn, seems_dense, turn_pair_by_all, turn_rows_by_all};
 use gate_table::Gate;
 use pauli_word::{Letter, Word};
 use std::alloc::{AllocError, Allocator};
 use std::marker::Model;
+pub use waiting::WaitingTableau;
 
 /// The state of n qubits. Contracts see it as n stabilizer rows, whose products are the words of the state, and n
 /// destabilizer rows.
@@ -257,5 +261,70 @@ impl<A: Allocator + Copy> Tableau<A> {
         ensures x { result.1 ≡ letters_clash (letter_at (stabilizer_at self.now row).letters qubit) X }
     {
         stabilizer_clashes(&self.rows[qubit], row)
+    }
+
+    // The outcome of a letter at a qubit, where one look at a row shows that it is decided.
+    fn outcome_seen(&self, letter: Letter, qubit: usize) -> Option<bool>
+        requires { qubit < row_count self.now }
+        ensures { IfSome result (λ seen. (coin : Bool)
+            → IsCollapsed self.now self.now (lone_letter (row_count self.now) qubit letter) coin
+            seen None) }
+    {
+        sign_seen(&self.rows[qubit], letter)
+    }
+
+    // Whether the row of a letter at a qubit seems dense; that of X stands for that of Y.
+    fn seems_dense(&self, letter: Letter, qubit: usize) -> bool
+        requires { qubit < row_count self.now }
+    {
+        let pair = &self.rows[qubit];
+        match letter {
+            Letter::Z => seems_dense(&pair.1, self.rows.len()),
+            _ => seems_dense(&pair.0, self.rows.len()),
+        }
+    }
+
+    // Makes turns that waited.
+    fn turn(&mut self, turns: &[Turn<A>])
+        requires { AreTurns turns.now self.old }
+        ensures { self.new ≡ turned_by turns.now self.old }
+    {
+        turn_rows_by_all(&mut self.rows, turns);
+    }
+
+    // Measures a letter at a qubit as it is once these turns are made. Where the outcome is decided it is answered, and otherwise
+    // the turn of the measurement is left in `turn`.
+    fn measure_after(
+        &mut self,
+        turns: &[Turn<A>],
+        turn: &mut Turn<A>,
+        letter: Letter,
+        qubit: usize,
+        coin: bool,
+    ) -> Option<bool>
+        requires inside { qubit < row_count self.old }
+        requires turns { AreTurns turns.now self.old }
+        requires size { IsSized (row_count self.old) turn.old }
+        ensures same { self.new ≡ self.old }
+        ensures size { IsSized (row_count self.old) turn.new }
+        ensures measures { Measures turns.now (turns_by result turns.now turn.new) self.old
+            (lone_letter (row_count self.old) qubit letter) coin (outcome_by result coin) }
+    {
+        replace(&mut self.second, &self.rows[qubit]);
+        turn_pair_by_all(&mut self.second, turns, qubit);
+        set_word(&mut self.first.0, &self.second, letter, false);
+        match self.first.0.lowest_x_or_y() {
+            None => Some(self.first.0.sign()),
+            Some(pivot) => {
+                set_turn(&mut self.first, pivot, coin);
+                turn.0.copy_from(&self.first.1);
+                turn.1 = Origin {
+                    pivot,
+                    qubit,
+                    letter,
+                };
+                None
+            }
+        }
     }
 }

@@ -15,7 +15,7 @@ random_row_of_word-requires g c =
 
 pub returns-clause-row : goal.returns-clause-row
 returns-clause-row g c =
-    let old = c.machine.inside.tableau in
+    let old = c.machine.inside.tableau.rows in
     let terms = c.args.terms.now in
     let row = c.random_row_of_word.result in
     let rows : old ≡ c.args.machine.now.rows = ap (λ (r : Running). r.rows) c.machine.view_is in

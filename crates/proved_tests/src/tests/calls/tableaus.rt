@@ -1,12 +1,12 @@
 //! A word that is applied to a state, what measurements replace, and the laws of states and rows.
-ghost use Rattle.std.specs.Prelude.{◌≡◌};
+ghost use Rattle.std.specs.Prelude.{◌≡◌, length};
 ghost use Rattle.tableau.specs.Rows.{row_count};
 
-use gate_table::laws as gate_laws;
+use gate_table::{Gate, laws as gate_laws};
 use pauli_word::{Letter, Word};
 use std::alloc::{AllocError, Global};
 use step_model::laws as step_laws;
-use tableau::{Tableau, laws};
+use tableau::{Tableau, WaitingTableau, laws};
 
 /// The laws of gates and steps, by which states change.
 fn call_laws_of_steps() {
@@ -124,4 +124,48 @@ fn product_is_measured(alloc: Global) -> Result<bool, AllocError> {
 #[test]
 fn a_product_is_measured(rt: HostRuntime) {
     assert!(rt; matches!(product_is_measured(rt.alloc()), Ok(true)));
+}
+
+/// X that is measured at two qubits that are 0 is random, and decided from then on, where only one turn can wait.
+fn xs_are_measured(tableau: &mut WaitingTableau<Global>) -> bool
+    requires { row_count tableau.old.rows ≡ 2 }
+    ensures { row_count tableau.new.rows ≡ 2 }
+{
+    let first = tableau.measure(Letter::X, 0, true);
+    let second = tableau.measure(Letter::X, 1, false);
+    let again = tableau.measure(Letter::X, 0, false);
+    tableau.reset_after(Letter::X, 0, again);
+    let reset = tableau.measure(Letter::X, 0, true);
+    first && !second && again && !reset
+}
+
+/// Then their product is decided too, and Z at each is random. H makes Z of X.
+fn zs_are_random(tableau: &mut WaitingTableau<Global>, word: &Word<Global>) -> bool
+    requires tableau { row_count tableau.old.rows ≡ 2 }
+    requires word { length word.now.letters ≡ 2 }
+{
+    let product = tableau.measure_word(word, true);
+    let is_decided = tableau.random_row_of_word(word).is_none();
+    let is_random = tableau.random_row(Letter::Z, 1).is_some();
+    tableau.apply(Gate::H, 0, 0);
+    let turned = tableau.measure(Letter::Z, 0, true);
+    tableau.settle();
+    is_decided && is_random && !product && !turned && tableau.settled().len() == 2
+}
+
+fn measurements_wait(alloc: Global) -> Result<bool, AllocError> {
+    let mut word = Word::identity(alloc, 2)?;
+    word.set_letter(0, Letter::X);
+    word.set_letter(1, Letter::X);
+    let mut tableau = WaitingTableau::start(alloc, 2, 1)?;
+    if !xs_are_measured(&mut tableau) || !zs_are_random(&mut tableau, &word) {
+        return Ok(false);
+    }
+    tableau.restart();
+    Ok(!tableau.measure(Letter::Z, 0, true))
+}
+
+#[test]
+fn turns_of_measurements_wait(rt: HostRuntime) {
+    assert!(rt; matches!(measurements_wait(rt.alloc()), Ok(true)));
 }

@@ -1,7 +1,7 @@
 use Rattle.std.proofs.Common.{length, refl, ap, sym, ◌∙◌}
 use Rattle.std.proofs.lemmas.List.{length-replicate}
 use Rattle.pauli_word.specs.declared.letter.Letter.TheVariants.{I}
-use Rattle.forward_sim.proofs.machine.Machine.start.Goals as goal
+use Rattle.forward_sim.proofs.machine.Machine.with_turns.Goals as goal
 
 pub invariant_of-result : goal.invariant_of-result
 invariant_of-result g c =
