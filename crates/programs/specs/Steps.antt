@@ -105,6 +105,16 @@ pub record PreviousFaults (nodes : List Node) (old new : Place) (most count : �
   pub none : 0 < most → count ≡ 0 → is_fault_node (node_before nodes new.index) ≡ false
   pub start : is_step (node_before nodes new.index) ≡ false → count ≡ 0 → node_before nodes new.index ≡ None
 
+-- a move forward over so many faults, `most` at most: none only where no step is ahead, or one that is no fault
+pub record NextFaults (nodes : List Node) (old new : Place) (most count : ℕ) : Type 0 where
+  pub first : ℕ
+  pub first_is : new.index ≡ first + count
+  pub kept : KeepsStep nodes old (record { index = first; turns = new.turns })
+  pub few : count ≤ most
+  pub each : (i : ℕ) → first ≤ i → i < first + count → is_fault_node (slice_get nodes i) ≡ true
+  pub none : 0 < most → count ≡ 0 → is_fault_node (slice_get nodes first) ≡ false
+  pub end : is_step (slice_get nodes first) ≡ false → count ≡ 0 → slice_get nodes first ≡ None
+
 -- a move over no step, to where no fault is before
 pub record StaysBehindFault (nodes : List Node) (old new : Place) : Type 0 where
   pub kept : KeepsStep nodes old new
