@@ -24,3 +24,4 @@ pub mod PairLemmas
 pub mod PairHits
 pub mod SideLemmas
 pub mod Rotations
+pub mod PassedFaults

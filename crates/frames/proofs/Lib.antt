@@ -15,3 +15,4 @@ pub mod LineLemmas
 pub mod PushLemmas
 pub mod ShownLemmas
 pub mod TextLemmas
+pub mod QuietFaults
