@@ -25,3 +25,4 @@ pub mod PairHits
 pub mod SideLemmas
 pub mod Rotations
 pub mod PassedFaults
+pub mod QuietFaults

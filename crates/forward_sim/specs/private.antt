@@ -7,3 +7,4 @@ pub mod BoundRuns
 pub mod LaneDraws
 pub mod PairDraws
 pub mod Sieves
+pub mod Quiet

@@ -20,6 +20,7 @@ mod machine;
 mod pair_draws;
 mod pcg_words;
 mod products;
+mod quiet;
 mod records;
 mod reference;
 mod replaced_word;
