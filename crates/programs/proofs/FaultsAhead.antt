@@ -10,8 +10,9 @@ use Rattle.programs.specs.declared.program.Text.{Text}
 use Rattle.programs.specs.declared.step.Counts.{Counts}
 use Rattle.programs.specs.declared.step.TextStep.TheVariants as text_step
 use Rattle.programs.specs.Kept.{KeptProgram}
-use Rattle.programs.specs.Numbering.{counts_after, no_counts}
-use Rattle.programs.specs.Steps.{NextFaults, is_fault_node, is_step}
+use Rattle.programs.specs.Named.{IsNamed}
+use Rattle.programs.specs.Numbering.{counts_after, named, no_counts}
+use Rattle.programs.specs.Steps.{NextFault, NextFaults, StaysBeforeNoFault, is_fault_node, is_step}
 use Rattle.programs.specs.Trees.{tree_of, unrolled}
 use Rattle.programs.specs.Turns.{faults_before}
 use Rattle.programs.specs.Walks.{ArePassed, is_fault}
@@ -88,6 +89,42 @@ module _ {A : Type 0} (program : KeptProgram) (text : Text A) where
       let one = goes program text at (record { index = at.index + 1; turns = at.turns }) counted k s both (over_step text.nodes.now both.walk.circuit at at k s both.walk.place node) in
       ap is_fault (sym one.step_is) ∙ listed_fault program.listing.qubits program.products counted s ∙ h
   no_fault at counted k (Some other) both node h end = let none : Some other ≡ None = end refl in cc
+
+  -- one fault is gone over
+  pub record IsOverFault (new : Place) (counted : Counts) (k : ℕ) (entry : ℕ) : Type 0 where
+    pub few_steps : k + 1 < 2 ^ 32
+    pub few_faults : counted.faults + 1 < 2 ^ 32
+    pub step_is : Some (Fault counted.faults) ≡ slice_get program.listing.steps k
+    pub named : IsNamed program (named counted.faults entry)
+    pub walk : IsWalkOf program text new (more counted 1) (k + 1)
+
+  pub over_one : (old new : Place) (counted : Counts) (k entry : ℕ) → IsWalkOf program text old counted k → NextFault text.nodes.now old new (Some entry) → IsOverFault new counted k entry
+  over_one old new counted k entry both went =
+      let one = goes program text old new counted k (text_step.Fault entry) both (went k both.walk.place) in
+      let r : counted.records + 0 ≡ counted.records = omega arith in
+      let c : counted.collapses + 0 ≡ counted.collapses = omega arith in
+      let same : counts_after counted (text_step.Fault entry) ≡ more counted 1 = λ i. record { records = r i; collapses = c i; faults = counted.faults + 1 } in
+      record {
+        few_steps = one.few;
+        few_faults = one.faults;
+        step_is = one.step_is;
+        named = one.named;
+        walk = subst (λ (c : Counts). IsWalkOf program text new c (k + 1)) same one.walk;
+      }
+
+  -- or none is
+  pub record IsOverNone (new : Place) (counted : Counts) (k : ℕ) : Type 0 where
+    pub walk : IsWalkOf program text new counted k
+    pub none : is_fault (slice_get program.listing.steps k) ≡ false
+
+  pub over_none : (old new : Place) (counted : Counts) (k : ℕ) → IsWalkOf program text old counted k → StaysBeforeNoFault text.nodes.now old new → IsOverNone new counted k
+  over_none old new counted k both stays =
+      let walk = both.walk in
+      let after : IsWalkOf program text new counted k = record {
+        held = both.held;
+        walk = record { circuit = walk.circuit; short = walk.short; feedback = walk.feedback; place = stays.kept k walk.place; counts = walk.counts };
+      } in
+      record { walk = after; none = no_fault new counted k (slice_get text.nodes.now new.index) after refl stays.none stays.end }
 
   pub record Ahead (new : Place) (counted : Counts) (k count : ℕ) : Type 0 where
     pub over : AreAhead new counted k count

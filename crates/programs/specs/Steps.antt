@@ -125,3 +125,14 @@ pub record StaysBehindFault (nodes : List Node) (old new : Place) : Type 0 where
 abbrev pub PreviousFault : List Node → Place → Place → Option ℕ → Type 0
 PreviousFault nodes old new None = StaysBehindFault nodes old new
 PreviousFault nodes old new (Some entry) = (k : ℕ) → IsAt nodes old k → GoesBackOver nodes old new (Fault entry) k
+
+-- a move over no step, to where no fault is ahead
+pub record StaysBeforeNoFault (nodes : List Node) (old new : Place) : Type 0 where
+  pub kept : KeepsStep nodes old new
+  pub none : is_fault_node (slice_get nodes new.index) ≡ false
+  pub end : is_step (slice_get nodes new.index) ≡ false → slice_get nodes new.index ≡ None
+
+-- the entry of the fault ahead and a move over it, or none where no fault is ahead
+abbrev pub NextFault : List Node → Place → Place → Option ℕ → Type 0
+NextFault nodes old new None = StaysBeforeNoFault nodes old new
+NextFault nodes old new (Some entry) = (k : ℕ) → IsAt nodes old k → GoesOver nodes old new (Fault entry) k

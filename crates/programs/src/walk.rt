@@ -6,7 +6,9 @@ ghost use Rattle.programs.specs.Named.{IsNamed, IsStepOf};
 ghost use Rattle.programs.specs.Turns.{faults_before, records_before};
 ghost use Rattle.programs.specs.Walks.{PassesBack, ArePassed, PassesOver, is_fault};
 
-use crate::place::{Place, next, next_faults, previous, previous_fault, previous_faults};
+use crate::place::{
+    Place, next, next_fault, next_faults, previous, previous_fault, previous_faults,
+};
 use crate::program::{Program, Text};
 use crate::step::{Counts, FaultName, Step, after, before, number};
 use arrayvec::ArrayVec;
@@ -139,6 +141,30 @@ impl<'a, 'p, A: Allocator + Copy> Walk<'a, 'p, A> {
         self.counts = after(self.counts, step);
         self.steps += 1;
         Some(numbered)
+    }
+
+    /// Answers the fault after this place and goes over it. None where the step after is no fault, or at the end: then no step
+    /// is gone over.
+    #[inline(always)]
+    pub fn next_fault(&mut self) -> Option<FaultName>
+        ensures fault { IfSome result (λ name. slice_get self.old.program.listing.steps
+            self.old.place
+            ≡ Some (Fault name.number)) }
+        ensures named { IfSome result (IsNamed self.old.program) }
+        ensures none { result ≡ None
+            → is_fault (slice_get self.old.program.listing.steps self.old.place) ≡ false }
+        ensures program { self.new.program ≡ self.old.program }
+        ensures over { IfSome result (λ name. self.new.place ≡ self.old.place + 1) }
+        ensures stays { result ≡ None → self.new.place ≡ self.old.place }
+    {
+        let entry = match next_fault(self.text.nodes, &mut self.place) {
+            Some(entry) => entry,
+            None => return None,
+        };
+        let number = self.counts.faults;
+        self.counts.faults += 1;
+        self.steps += 1;
+        Some(FaultName { number, entry })
     }
 
     /// Goes forward over the faults that stand right after the place, over `most` at most, and answers how many these are.

@@ -121,15 +121,26 @@ fn answers_fault(walk: &Walk<'_, '_, Global>, step: &Step) -> bool {
     }
 }
 
+// Whether the step after a walk is answered as a fault, and gone over, just where it is one.
+fn answers_next_fault(walk: &Walk<'_, '_, Global>, step: &Step) -> bool {
+    let mut walk = walk.copy();
+    match walk.next_fault() {
+        Some(name) => *step == Step::Fault(name) && walk.previous_step() == Some(*step),
+        None => !matches!(step, Step::Fault(_)) && walk.next_step() == Some(*step),
+    }
+}
+
 // Goes over each step forth, back and forth again, and then back to the start.
 fn walks_over(program: &Program<'_, Global>, steps: &[Step]) -> bool {
     let mut walk = Walk::start(program);
     let mut all = true;
     for step in steps {
+        all &= answers_next_fault(&walk, step);
         all &= goes_forth(&mut walk, step);
         all &= goes_back(&mut walk, step);
         all &= goes_forth(&mut walk, step);
     }
+    all &= walk.next_fault().is_none();
     all &= walk.next_step().is_none();
     for step in steps.iter().rev() {
         all &= goes_back(&mut walk, step);
