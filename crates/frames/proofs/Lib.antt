@@ -16,3 +16,4 @@ pub mod PushLemmas
 pub mod ShownLemmas
 pub mod TextLemmas
 pub mod QuietFaults
+pub mod QuietBeside

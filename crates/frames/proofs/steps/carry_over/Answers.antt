@@ -1,7 +1,7 @@
 use Rattle.frames.proofs.FollowedSteps.{no_turns}
 use Rattle.frames.proofs.StillFrames.{goes_nowhere}
 use Rattle.forward_sim.proofs.WalkedSteps.{listed_of}
-use Rattle.frames.proofs.alone.carry_over.Goals as goal
+use Rattle.frames.proofs.steps.carry_over.Goals as goal
 
 pub take_step-requires-clause-turns : goal.take_step-requires-clause-turns
 take_step-requires-clause-turns g c = no_turns c.args.program.now.listing.qubits (listed_of c.args.program.now c.args.step)
