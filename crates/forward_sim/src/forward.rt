@@ -48,7 +48,7 @@ fn take_steps<A: Allocator + Copy>(
     let mut hit = 0;
     while let Some(step) = walk.next_step() {
         take_step(&mut machine, program, faults, step);
-        hit = pass_quiet(&mut walk, faults, hit, step);
+        pass_quiet(&mut walk, faults, &mut hit, step);
     }
     Ok(machine.take_records(alloc))
 }

@@ -5,38 +5,35 @@ ghost use Rattle.forward_sim.specs.private.Quiet.{NoneAhead, NoneHappens, Passes
 use programs::{Step, Walk};
 use std::alloc::Allocator;
 
-/// Behind a fault, goes over the faults ahead that don't happen. No fault ahead whose number is below `hit` happens, and then
-/// none below the answer.
+/// Behind a fault, goes over the faults right ahead that don't happen. Before and after, no fault ahead with a number below
+/// `hit` happens.
 #[inline(always)]
 pub(crate) fn pass_quiet<A: Allocator + Copy>(
     walk: &mut Walk<'_, '_, A>,
     faults: &[bool],
-    hit: usize,
+    hit: &mut usize,
     step: Step,
-) -> usize
-    requires { NoneAhead faults.now walk.old hit }
+)
+    requires { NoneAhead faults.now walk.old hit.old }
     ensures passed { PassesQuiet faults.now walk.old walk.new }
-    ensures none { NoneAhead faults.now walk.new result }
+    ensures none { NoneAhead faults.now walk.new hit.new }
 {
-    match step {
-        Step::Fault(_) => pass_ahead(walk, faults, hit),
-        _ => hit,
+    if matches!(step, Step::Fault(_)) && walk.is_before_fault() {
+        pass_ahead(walk, faults, hit);
     }
 }
 
-fn pass_ahead<A: Allocator + Copy>(walk: &mut Walk<'_, '_, A>, faults: &[bool], hit: usize) -> usize
-    requires { NoneAhead faults.now walk.old hit }
+#[inline(never)]
+fn pass_ahead<A: Allocator + Copy>(walk: &mut Walk<'_, '_, A>, faults: &[bool], hit: &mut usize)
+    requires { NoneAhead faults.now walk.old hit.old }
     ensures passed { PassesQuiet faults.now walk.old walk.new }
-    ensures none { NoneAhead faults.now walk.new result }
+    ensures none { NoneAhead faults.now walk.new hit.new }
 {
     let number = walk.faults();
-    let hit = if number < hit {
-        hit
-    } else {
-        next_hit(faults, number)
-    };
-    walk.pass_faults(hit - number);
-    hit
+    if *hit <= number {
+        *hit = next_hit(faults, number);
+    }
+    walk.pass_faults(*hit - number);
 }
 
 // The number of the first fault from this one on that happens. There is none where that is past the end.

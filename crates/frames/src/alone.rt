@@ -32,6 +32,6 @@ pub(crate) fn carry_alone<A: Allocator + Copy>(
     let mut hit = 0;
     while let Some(step) = walk.next_step() {
         still = carry_over(frames, program, faults, still, step);
-        hit = pass_quiet(&mut walk, faults, hit, step);
+        pass_quiet(&mut walk, faults, &mut hit, step);
     }
 }

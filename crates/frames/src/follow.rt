@@ -60,7 +60,7 @@ pub(crate) fn follow_steps<A: Allocator + Copy>(
         } else {
             still = carry_over(frames, program, faults, still, step);
             // A fault that doesn't happen leaves the reference run as it is too.
-            hit = pass_quiet(&mut walk, faults, hit, step);
+            pass_quiet(&mut walk, faults, &mut hit, step);
         }
     }
 }

@@ -5,38 +5,35 @@ ghost use Rattle.frames.specs.private.Quiet.{NoneAhead, NoneHappens, PassesQuiet
 use programs::{Step, Walk};
 use std::alloc::Allocator;
 
-/// Behind a fault, goes over the faults ahead that happen in no run. No fault ahead whose number is below `hit` happens in
-/// any, and then none below the answer.
+/// Behind a fault, goes over the faults right ahead that happen in no run. Before and after, no fault ahead with a number
+/// below `hit` happens in any.
 #[inline(always)]
 pub(crate) fn pass_quiet<A: Allocator + Copy>(
     walk: &mut Walk<'_, '_, A>,
     faults: &[u64],
-    hit: usize,
+    hit: &mut usize,
     step: Step,
-) -> usize
-    requires { NoneAhead faults.now walk.old hit }
+)
+    requires { NoneAhead faults.now walk.old hit.old }
     ensures passed { PassesQuiet faults.now walk.old walk.new }
-    ensures none { NoneAhead faults.now walk.new result }
+    ensures none { NoneAhead faults.now walk.new hit.new }
 {
-    match step {
-        Step::Fault(_) => pass_ahead(walk, faults, hit),
-        _ => hit,
+    if matches!(step, Step::Fault(_)) && walk.is_before_fault() {
+        pass_ahead(walk, faults, hit);
     }
 }
 
-fn pass_ahead<A: Allocator + Copy>(walk: &mut Walk<'_, '_, A>, faults: &[u64], hit: usize) -> usize
-    requires { NoneAhead faults.now walk.old hit }
+#[inline(never)]
+fn pass_ahead<A: Allocator + Copy>(walk: &mut Walk<'_, '_, A>, faults: &[u64], hit: &mut usize)
+    requires { NoneAhead faults.now walk.old hit.old }
     ensures passed { PassesQuiet faults.now walk.old walk.new }
-    ensures none { NoneAhead faults.now walk.new result }
+    ensures none { NoneAhead faults.now walk.new hit.new }
 {
     let number = walk.faults();
-    let hit = if number < hit {
-        hit
-    } else {
-        next_hit(faults, number)
-    };
-    walk.pass_faults(hit - number);
-    hit
+    if *hit <= number {
+        *hit = next_hit(faults, number);
+    }
+    walk.pass_faults(*hit - number);
 }
 
 // The number of the first word from this one on that isn't 0. There is none where that is past the end.

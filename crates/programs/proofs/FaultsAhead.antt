@@ -81,6 +81,14 @@ module _ {A : Type 0} (program : KeptProgram) (text : Text A) where
           let number : f + 1 + i ≡ f + suc i = omega arith in
           ap (slice_get program.listing.steps) (sym place) ∙ rest i (omega (arith, below)) ∙ ap (λ n. Some (Fault n)) number
 
+  -- where the step ahead is a fault
+  pub fault_ahead : (at : Place) (counted : Counts) (k : ℕ) → IsWalkOf program text at counted k → is_fault_node (slice_get text.nodes.now at.index) ≡ true → is_fault (slice_get program.listing.steps k) ≡ true
+  fault_ahead at counted k both fault =
+      let there = fault_there (slice_get text.nodes.now at.index) fault in
+      let s = text_step.Fault there.0 in
+      let one = goes program text at (record { index = at.index + 1; turns = at.turns }) counted k s both (over_step text.nodes.now both.walk.circuit at at k s both.walk.place there.1) in
+      ap is_fault (sym one.step_is)
+
   -- where the step ahead is no fault, or the place is at the end
   no_fault : (at : Place) (counted : Counts) (k : ℕ) (o : Option Node) → IsWalkOf program text at counted k → slice_get text.nodes.now at.index ≡ o → is_fault_node o ≡ false → (is_step o ≡ false → o ≡ None) → is_fault (slice_get program.listing.steps k) ≡ false
   no_fault at counted k None both node h end =

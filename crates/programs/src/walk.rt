@@ -167,6 +167,15 @@ impl<'a, 'p, A: Allocator + Copy> Walk<'a, 'p, A> {
         Some(FaultName { number, entry })
     }
 
+    /// Whether a fault stands right after the place. At the end of a turn of a block it may be missed.
+    #[inline(always)]
+    pub fn is_before_fault(&self) -> bool
+        ensures { result ≡ true
+            → is_fault (slice_get self.now.program.listing.steps self.now.place) ≡ true }
+    {
+        self.text.nodes.is_fault(self.place.index)
+    }
+
     /// Goes forward over the faults that stand right after the place, over `most` at most, and answers how many these are.
     pub fn pass_faults(&mut self, most: usize) -> usize
         ensures program { self.new.program ≡ self.old.program }

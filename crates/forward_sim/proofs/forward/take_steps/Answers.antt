@@ -37,9 +37,9 @@ take_step-requires g c =
     let m = c.loop-step.machine in
     along_can c.args.program.now c.loop-step.walk c.next_step.new.self c.in-Some.step c.args.faults.now c.args.coins.now (qubit_count m) m.room (run_of m) c.well_formed-2.ensures.listing (over g here) c.loop-step.invariant.along
 
-pub pass_quiet-hit-requires : goal.pass_quiet-hit-requires
-pass_quiet-hit-requires g c =
-    let here = (goal.at.pass_quiet-hit-requires g c).In-Some in
+pub pass_quiet-requires : goal.pass_quiet-requires
+pass_quiet-requires g c =
+    let here = (goal.at.pass_quiet-requires g c).In-Some in
     let faults = c.args.faults.now in
     let walk = c.loop-step.walk in
     let after = c.next_step.new.self in
@@ -49,7 +49,7 @@ pass_quiet-hit-requires g c =
 
 pub loop-step-smaller : goal.loop-step-smaller
 loop-step-smaller g c =
-    omega (arith, (over g (goal.at.loop-step-smaller g c).In-Some).smaller, c.pass_quiet-hit.ensures.passed.place_is)
+    omega (arith, (over g (goal.at.loop-step-smaller g c).In-Some).smaller, c.pass_quiet.ensures.passed.place_is)
 
 pub loop-step-preserved : goal.loop-step-preserved
 loop-step-preserved g c =
@@ -58,15 +58,15 @@ loop-step-preserved g c =
     let m = c.loop-step.machine in
     let after = c.take_step.new.machine in
     let taken = c.take_step.ensures in
-    let passes = c.pass_quiet-hit.ensures.passed in
+    let passes = c.pass_quiet.ensures.passed in
     let well = c.well_formed-2.ensures.listing in
     record {
       program = passes.program_is ∙ walked.program_is;
       along =
-          along_quiet program c.args.faults.now c.args.coins.now c.next_step.new.self c.pass_quiet-hit.new.walk (qubit_count after) after.room (run_of after) well walked.program_is passes
+          along_quiet program c.args.faults.now c.args.coins.now c.next_step.new.self c.pass_quiet.new.walk (qubit_count after) after.room (run_of after) well walked.program_is passes
           (along_on program c.loop-step.walk c.next_step.new.self c.in-Some.step c.args.faults.now c.args.coins.now (qubit_count m) m.room (run_of m) well walked c.loop-step.invariant.along
           (qubit_count after) after.room (run_of after) taken.qubits taken.room taken.run);
-      none = c.pass_quiet-hit.ensures.none;
+      none = c.pass_quiet.ensures.none;
     }
 
 -- at the end the records are those of the run

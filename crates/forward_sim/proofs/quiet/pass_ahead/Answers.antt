@@ -5,18 +5,18 @@ use Rattle.forward_sim.specs.private.Quiet.{NoneAhead, NoneHappens}
 use Rattle.forward_sim.proofs.QuietFaults.{none-later}
 use Rattle.forward_sim.proofs.quiet.pass_ahead.Given.{Over}
 use Rattle.forward_sim.proofs.quiet.pass_ahead.Goals as goal
-use Rattle.forward_sim.proofs.quiet.pass_ahead.Goals.{After-pass_faults, then-number-hit, else-number-hit}
+use Rattle.forward_sim.proofs.quiet.pass_ahead.Goals.{After-pass_faults, then-hit-number, else-hit-number}
 
 -- none happens up to the number that is kept or found
-none : (g : Over) (c : After-pass_faults g) → NoneAhead c.args.faults.now c.args.walk.now c.if-number-hit.hit
+none : (g : Over) (c : After-pass_faults g) → NoneAhead c.args.faults.now c.args.walk.now c.if-hit-number.hit
 none g c =
     let faults = c.args.faults.now in
     let walk = c.args.walk.now in
-    elim c.if-number-hit.branch [
-      | then-number-hit w ↦ subst (NoneAhead faults walk) (sym w.hit-is) c.requires
-      | else-number-hit w ↦
+    elim c.if-hit-number.branch [
+      | then-hit-number w ↦
           subst (NoneAhead faults walk) (sym w.hit-is)
-          (subst (λ n. NoneHappens faults n w.next_hit-hit.result) c.faults-number.ensures w.next_hit-hit.ensures.none)
+          (subst (λ n. NoneHappens faults n w.next_hit.result) c.faults-number.ensures w.next_hit.ensures.none)
+      | else-hit-number w ↦ subst (NoneAhead faults walk) (sym w.hit-is) c.requires
     ]
 
 pub returns-clause-none : goal.returns-clause-none
@@ -24,7 +24,7 @@ returns-clause-none g c =
     let faults = c.args.faults.now in
     let walk = c.args.walk.now in
     let after = c.pass_faults.new.self in
-    let hit = c.if-number-hit.hit in
+    let hit = c.if-hit-number.hit in
     subst (λ (p : KeptProgram). NoneHappens faults (faults_before p.listing.steps after.place) hit) (sym c.pass_faults.ensures.program)
     (none-later faults walk.program.listing.steps walk.place after.place hit (omega (arith, c.pass_faults.ensures.place))
     (none g (goal.at.returns-clause-none g c).After-pass_faults))

@@ -53,9 +53,9 @@ carry_over-still-requires-clause-room g c =
       carried-room program.listing (lane 0 c.args.faults.now) (listed_of program c.in-Some.step) (drop c.next_step.new.self.place program.listing.steps) c.loop-step.frames c.well_formed-2.ensures.listing (before g here 0),
     )
 
-pub pass_quiet-hit-requires : goal.pass_quiet-hit-requires
-pass_quiet-hit-requires g c =
-    let here = (goal.at.pass_quiet-hit-requires g c).In-Some in
+pub pass_quiet-requires : goal.pass_quiet-requires
+pass_quiet-requires g c =
+    let here = (goal.at.pass_quiet-requires g c).In-Some in
     let faults = c.args.faults.now in
     let walk = c.loop-step.walk in
     let after = c.next_step.new.self in
@@ -65,7 +65,7 @@ pass_quiet-hit-requires g c =
 
 pub loop-step-smaller : goal.loop-step-smaller
 loop-step-smaller g c =
-    omega (arith, (over g (goal.at.loop-step-smaller g c).In-Some).smaller, c.pass_quiet-hit.ensures.passed.place_is)
+    omega (arith, (over g (goal.at.loop-step-smaller g c).In-Some).smaller, c.pass_quiet.ensures.passed.place_is)
 
 pub loop-step-preserved : goal.loop-step-preserved
 loop-step-preserved g c =
@@ -75,17 +75,17 @@ loop-step-preserved g c =
     let after = c.next_step.new.self in
     let frames = c.carry_over-still.new.frames in
     let goes = c.carry_over-still.ensures.goes in
-    let passes = c.pass_quiet-hit.ensures.passed in
+    let passes = c.pass_quiet.ensures.passed in
     let ends = λ (j : ℕ). carried_frame program.listing (lane j faults) in
     record {
       program = passes.program_is ∙ (over g here).program_is;
       qubits = goes.qubits ∙ c.loop-step.invariant.qubits;
       room = goes.room ∙ c.loop-step.invariant.room;
       carried =
-          carried-quiet program faults frames ends after c.pass_quiet-hit.new.walk (over g here).program_is passes
+          carried-quiet program faults frames ends after c.pass_quiet.new.walk (over g here).program_is passes
           (carried-on program.listing faults (listed_of program c.in-Some.step) (drop after.place program.listing.steps) 0 c.loop-step.frames frames ends goes (before g here));
       still = c.carry_over-still.ensures.still;
-      none = c.pass_quiet-hit.ensures.none;
+      none = c.pass_quiet.ensures.none;
     }
 
 pub returns-clause-carried : goal.returns-clause-carried

@@ -135,12 +135,12 @@ carry_over-still-requires-clause-room g c =
     let here = (goal.at.carry_over-still-requires-clause-room g c).In-Some in
     omega (arith, c.requires.room, c.loop-step.invariant.room, beside-room c.args.program.now.listing c.loop-step.reference c.args.faults.now c.args.coins.now (listed_of c.args.program.now c.in-Some.step) (drop c.next_step.new.self.place c.args.program.now.listing.steps) c.loop-step.collapse c.loop-step.frames (count g here) (before g here))
 
-pub pass_quiet-hit-requires : goal.pass_quiet-hit-requires
-pass_quiet-hit-requires g c = ahead g (goal.at.pass_quiet-hit-requires g c).In-Some
+pub pass_quiet-requires : goal.pass_quiet-requires
+pass_quiet-requires g c = ahead g (goal.at.pass_quiet-requires g c).In-Some
 
 pub loop-step-smaller : goal.loop-step-smaller
 loop-step-smaller g c =
-    omega (arith, (over g (goal.at.loop-step-smaller g c).In-Some).smaller, c.pass_quiet-hit.ensures.passed.place_is)
+    omega (arith, (over g (goal.at.loop-step-smaller g c).In-Some).smaller, c.pass_quiet.ensures.passed.place_is)
 
 pub loop-step-preserved : goal.loop-step-preserved
 loop-step-preserved g c =
@@ -150,7 +150,7 @@ loop-step-preserved g c =
     let after = c.go_over.new.self in
     let frames = c.carry_over-still.new.frames in
     let goes = c.carry_over-still.ensures.goes in
-    let passes = c.pass_quiet-hit.ensures.passed in
+    let passes = c.pass_quiet.ensures.passed in
     record {
       program = passes.program_is ∙ walked.program_is;
       qubits = goes.qubits ∙ c.loop-step.invariant.qubits;
@@ -158,11 +158,11 @@ loop-step-preserved g c =
       reference = c.go_over.ensures.reference c.loop-step.invariant.reference;
       records = c.go_over.ensures.records ∙ c.loop-step.invariant.records;
       beside =
-          beside-quiet c.args.program.now after c.args.faults.now c.args.coins.now c.loop-step.collapse frames c.next_step.new.self c.pass_quiet-hit.new.walk c.well_formed-2.ensures.listing walked.program_is passes
+          beside-quiet c.args.program.now after c.args.faults.now c.args.coins.now c.loop-step.collapse frames c.next_step.new.self c.pass_quiet.new.walk c.well_formed-2.ensures.listing walked.program_is passes
           (beside-other program c.loop-step.reference after c.args.faults.now c.args.coins.now (listed_of c.args.program.now c.in-Some.step) (drop c.next_step.new.self.place program.steps) c.loop-step.collapse 0 c.loop-step.frames frames
           (fits g here) (collapses g here c.is_collapse.result c.is_collapse.ensures false c.if-is_collapse.false) (before g here) c.go_over.ensures.records (gone g here after c.go_over.ensures.over) goes);
       still = c.carry_over-still.ensures.still;
-      none = c.pass_quiet-hit.ensures.none;
+      none = c.pass_quiet.ensures.none;
     }
 
 pub returns-clause-runs : goal.returns-clause-runs
