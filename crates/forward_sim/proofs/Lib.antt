@@ -25,3 +25,5 @@ pub mod PairLemmas
 pub mod PairHits
 pub mod SideLemmas
 pub mod Rotations
+pub mod PassedFaults
+pub mod QuietFaults

@@ -12,7 +12,7 @@ use Rattle.programs.specs.Walks.{Walked}
 use Rattle.step_model.specs.Listing.{ListedStep, Fault}
 
 -- the step at a place stands first in what is left
-drop-step : (steps : List ListedStep) (place : ℕ) (step : ListedStep) → slice_get steps place ≡ Some step → drop place steps ≡ step ∷ drop (place + 1) steps
+pub drop-step : (steps : List ListedStep) (place : ℕ) (step : ListedStep) → slice_get steps place ≡ Some step → drop place steps ≡ step ∷ drop (place + 1) steps
 drop-step steps place step here =
     drop_more steps place step (slice_get_within steps place step here)
     ∙ ap (λ s. s ∷ drop (place + 1) steps) (get_or_from_slice_get steps place step step here)

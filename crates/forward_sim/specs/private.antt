@@ -8,3 +8,4 @@ pub mod LaneDraws
 pub mod PairDraws
 pub mod HalfDraws
 pub mod Sieves
+pub mod Quiet

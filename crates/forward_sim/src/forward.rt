@@ -3,6 +3,7 @@ ghost use Rattle.step_model.specs.Faults.{memory_fault};
 ghost use Rattle.step_model.specs.Runs.{records_of};
 
 use crate::machine::Machine;
+use crate::quiet::pass_quiet;
 use crate::records::Records;
 use crate::steps::take_step;
 use programs::{Program, Walk};
@@ -43,8 +44,11 @@ fn take_steps<A: Allocator + Copy>(
     let qubits = program.qubits() as usize;
     let mut machine = Machine::start(alloc, qubits, program.record_count() as usize, coins)?;
     let mut walk = Walk::start(program);
+    // no fault ahead with a lower number happens
+    let mut hit = 0;
     while let Some(step) = walk.next_step() {
         take_step(&mut machine, program, faults, step);
+        pass_quiet(&mut walk, faults, &mut hit, step);
     }
     Ok(machine.take_records(alloc))
 }

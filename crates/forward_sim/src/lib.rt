@@ -22,6 +22,7 @@ mod pair_draw;
 mod pair_draws;
 mod pcg_words;
 mod products;
+mod quiet;
 mod records;
 mod reference;
 mod replaced_word;

@@ -15,3 +15,5 @@ pub mod LineLemmas
 pub mod PushLemmas
 pub mod ShownLemmas
 pub mod TextLemmas
+pub mod QuietFaults
+pub mod QuietBeside

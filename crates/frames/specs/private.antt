@@ -6,3 +6,4 @@ pub mod LaneLines
 pub mod Octets
 pub mod ShownRuns
 pub mod WritesShots
+pub mod Quiet

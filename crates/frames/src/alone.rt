@@ -5,7 +5,8 @@ ghost use Rattle.frames.specs.Carried.{carried_frame};
 ghost use Rattle.frames.specs.LaneFrames.{frame_in};
 
 use crate::frames::Frames;
-use crate::steps::{is_quiet, take_step};
+use crate::quiet::pass_quiet;
+use crate::steps::carry_over;
 use programs::{Program, Walk};
 use std::alloc::Allocator;
 
@@ -27,10 +28,10 @@ pub(crate) fn carry_alone<A: Allocator + Copy>(
     let mut walk = Walk::start(program);
     // whether all frames are I, as at the start
     let mut still = true;
+    // no fault ahead with a lower number happens in any run
+    let mut hit = 0;
     while let Some(step) = walk.next_step() {
-        if !is_quiet(faults, still, step) {
-            take_step(frames, program, faults, None, 0, step);
-            still = false;
-        }
+        still = carry_over(frames, program, faults, still, step);
+        pass_quiet(&mut walk, faults, &mut hit, step);
     }
 }

@@ -7,7 +7,8 @@ ghost use Rattle.step_model.specs.Runs.{records_of, start};
 ghost use Rattle.frames.specs.Batches.{AreAtStart};
 
 use crate::frames::Frames;
-use crate::steps::{is_quiet, take_step, word_at};
+use crate::quiet::pass_quiet;
+use crate::steps::{carry_over, take_step, word_at};
 use forward_sim::Reference;
 use programs::{Program, Walk};
 use std::alloc::Allocator;
@@ -40,6 +41,8 @@ pub(crate) fn follow_steps<A: Allocator + Copy>(
     let mut collapse = 0;
     // whether all frames are I, as at the start
     let mut still = true;
+    // no fault ahead with a lower number happens in any run
+    let mut hit = 0;
     while let Some(step) = walk.next_step() {
         reference.go_over(program, &step);
         if step.is_collapse() {
@@ -54,9 +57,10 @@ pub(crate) fn follow_steps<A: Allocator + Copy>(
             );
             collapse += 1;
             still = false;
-        } else if !is_quiet(faults, still, step) {
-            take_step(frames, program, faults, None, 0, step);
-            still = false;
+        } else {
+            still = carry_over(frames, program, faults, still, step);
+            // A fault that doesn't happen leaves the reference run as it is too.
+            pass_quiet(&mut walk, faults, &mut hit, step);
         }
     }
 }

@@ -1,4 +1,4 @@
-ghost use Rattle.std.specs.Prelude.{◌≡◌, ◌<◌, ◌≤◌, ◌+◌, ℕ, false, is_some, IsTrue, if◌then◌else◌, length, option_map, slice_index_or};
+ghost use Rattle.std.specs.Prelude.{◌≡◌, ◌<◌, ◌≤◌, ◌+◌, ℕ, true, false, None, is_some, IsTrue, if◌then◌else◌, length, option_map, slice_index_or};
 ghost use Rattle.bit_rows.specs.Lanes.{lane, lane_bit};
 ghost use Rattle.pauli_word.specs.Parity.{exclusive_or};
 ghost use Rattle.pauli_word.specs.Words.{lone_letter};
@@ -7,7 +7,7 @@ ghost use Rattle.programs.specs.Named.{IsStepOf};
 ghost use Rattle.step_model.specs.Listing.{word_of_terms, step_records};
 ghost use Rattle.step_model.specs.Runs.{flip_happens};
 ghost use Rattle.step_model.specs.WellFormed.{TermsFit};
-ghost use Rattle.frames.specs.private.Followed.{ChangesNothing, TurnsAt, Turns, flips_in, followed, reset_in, terms_of, terms_or_none, turned_in, turned_where};
+ghost use Rattle.frames.specs.private.Followed.{AreStill, ChangesNothing, TurnsAt, Turns, flips_in, followed, reset_in, terms_of, terms_or_none, turned_in, turned_where};
 ghost use Rattle.frames.specs.LaneFrames.{GoesTo};
 
 use crate::frames::Frames;
@@ -74,6 +74,34 @@ pub(crate) fn take_step<A: Allocator + Copy>(
             frames.times(letter, q as usize, runs);
         }
     }
+}
+
+/// Takes the frames over a step, with no reference run beside it. Where `still` all of them are I, and it answers whether they
+/// are known to be I then.
+#[inline(always)]
+pub(crate) fn carry_over<A: Allocator + Copy>(
+    frames: &mut Frames<A>,
+    program: &Program<'_, A>,
+    faults: &[u64],
+    still: bool,
+    step: Step,
+) -> bool
+    requires of_program { IsStepOf program.now step }
+    requires qubits { length frames.old.letters ≡ program.now.listing.qubits }
+    requires room { length frames.old.flips + length
+        (step_records (listed program.now.listing.qubits program.now.products step))
+        ≤ frames.old.room }
+    requires still { still ≡ true → AreStill frames.old }
+    ensures goes { GoesTo frames.old frames.new (λ j v. followed program.now.listing
+        (lane j faults.now) None (lane_bit j 0)
+        (listed program.now.listing.qubits program.now.products step) v) }
+    ensures still { result ≡ true → AreStill frames.new }
+{
+    if is_quiet(faults, still, step) {
+        return still;
+    }
+    take_step(frames, program, faults, None, 0, step);
+    false
 }
 
 /// Whether a step that is no collapse leaves all frames as they are: a fault that happens in none of the runs, as most

@@ -23,12 +23,12 @@ use Rattle.programs.specs.Trees.{tree_of}
 use Rattle.programs.proofs.Places.{bounded}
 use Rattle.programs.proofs.WalkSteps.{Returns, returns_over}
 
-fault_there : (o : Option Node) → is_fault_node o ≡ true → (entry : ℕ) × (o ≡ Some (Do (text_step.Fault entry)))
+pub fault_there : (o : Option Node) → is_fault_node o ≡ true → (entry : ℕ) × (o ≡ Some (Do (text_step.Fault entry)))
 fault_there (Some (Do (text_step.Fault entry))) h = (entry, refl)
 fault_there other h = cc
 
 -- a step is listed as a fault where the text has one
-listed_fault : (n : ℕ) (products : List (List Term)) (c : Counts) (s : TextStep) → is_fault (Some (listed n products (numbered_step c s))) ≡ is_fault_node (Some (Do s))
+pub listed_fault : (n : ℕ) (products : List (List Term)) (c : Counts) (s : TextStep) → is_fault (Some (listed n products (numbered_step c s))) ≡ is_fault_node (Some (Do s))
 listed_fault n products c (text_step.Fault entry) = refl
 listed_fault n products c other = refl
 

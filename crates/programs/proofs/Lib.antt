@@ -27,3 +27,4 @@ pub mod FoundLaws
 pub mod FaultOrders
 pub mod Walking
 pub mod FaultRuns
+pub mod FaultsAhead

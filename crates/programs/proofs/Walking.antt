@@ -4,7 +4,11 @@ use Rattle.std.specs.Prelude.{Some, None, option_map, slice_get, nat_lt, if◌th
 use Rattle.std.specs.Option.{option_to_list}
 use Rattle.std.proofs.lemmas.List.{drop_all}
 use Rattle.std.proofs.lemmas.Option.{slice_get_cases, slice_get_within}
+use Rattle.std.proofs.lemmas.Bool.{lt-ltb}
+use Rattle.step_model.specs.Listing.{Fault}
 use Rattle.step_model.specs.WellFormed.{faults_named}
+use Rattle.programs.specs.declared.step.FaultName.{FaultName}
+use Rattle.programs.specs.declared.step.Step.TheVariants as step
 use Rattle.programs.specs.declared.step.Step.{Step}
 use Rattle.programs.specs.Kept.{KeptProgram}
 use Rattle.programs.specs.Listed.{listed}
@@ -54,3 +58,13 @@ none_left_behind old new none program place = elim (slice_get_cases old.program.
       ap (λ (p : KeptProgram). faults_named (drop new.place p.listing.steps)) program
       ∙ ap faults_named (drop_all new.place old.program.listing.steps past)
 ]
+
+-- over a fault
+pub over_fault : (old new : Walked) (name : FaultName) → slice_get old.program.listing.steps old.place ≡ Some (Fault name.number) → new.program ≡ old.program → new.place ≡ old.place + 1 → GoesOver old new (step.Fault name)
+over_fault old new name here program place =
+    let within = slice_get_within old.program.listing.steps old.place (Fault name.number) here in
+    record {
+      at = sym here;
+      program = program;
+      place = place ∙ sym (ap (λ b. if b then old.place + 1 else old.place) (lt-ltb old.place (length old.program.listing.steps) within));
+    }

@@ -105,6 +105,16 @@ pub record PreviousFaults (nodes : List Node) (old new : Place) (most count : �
   pub none : 0 < most → count ≡ 0 → is_fault_node (node_before nodes new.index) ≡ false
   pub start : is_step (node_before nodes new.index) ≡ false → count ≡ 0 → node_before nodes new.index ≡ None
 
+-- a move forward over so many faults, `most` at most: none only where no step is ahead, or one that is no fault
+pub record NextFaults (nodes : List Node) (old new : Place) (most count : ℕ) : Type 0 where
+  pub first : ℕ
+  pub first_is : new.index ≡ first + count
+  pub kept : KeepsStep nodes old (record { index = first; turns = new.turns })
+  pub few : count ≤ most
+  pub each : (i : ℕ) → first ≤ i → i < first + count → is_fault_node (slice_get nodes i) ≡ true
+  pub none : 0 < most → count ≡ 0 → is_fault_node (slice_get nodes first) ≡ false
+  pub end : is_step (slice_get nodes first) ≡ false → count ≡ 0 → slice_get nodes first ≡ None
+
 -- a move over no step, to where no fault is before
 pub record StaysBehindFault (nodes : List Node) (old new : Place) : Type 0 where
   pub kept : KeepsStep nodes old new
@@ -115,3 +125,14 @@ pub record StaysBehindFault (nodes : List Node) (old new : Place) : Type 0 where
 abbrev pub PreviousFault : List Node → Place → Place → Option ℕ → Type 0
 PreviousFault nodes old new None = StaysBehindFault nodes old new
 PreviousFault nodes old new (Some entry) = (k : ℕ) → IsAt nodes old k → GoesBackOver nodes old new (Fault entry) k
+
+-- a move over no step, to where no fault is ahead
+pub record StaysBeforeNoFault (nodes : List Node) (old new : Place) : Type 0 where
+  pub kept : KeepsStep nodes old new
+  pub none : is_fault_node (slice_get nodes new.index) ≡ false
+  pub end : is_step (slice_get nodes new.index) ≡ false → slice_get nodes new.index ≡ None
+
+-- the entry of the fault ahead and a move over it, or none where no fault is ahead
+abbrev pub NextFault : List Node → Place → Place → Option ℕ → Type 0
+NextFault nodes old new None = StaysBeforeNoFault nodes old new
+NextFault nodes old new (Some entry) = (k : ℕ) → IsAt nodes old k → GoesOver nodes old new (Fault entry) k

@@ -29,6 +29,24 @@ pub fn next_fault<'a, 'p, A: Allocator + Copy>(walk: &mut Walk<'a, 'p, A>) -> Op
     // No fault is left then after the place where the walk stands.
     ensures stays { result ≡ None → faults_left walk.new ≡ [] }
 {
+    // Most faults stand right behind another.
+    match walk.next_fault() {
+        Some(name) => Some(found(name, None)),
+        None => find_fault(walk),
+    }
+}
+
+// The same, by all steps up to the fault.
+#[inline(always)]
+fn find_fault<'a, 'p, A: Allocator + Copy>(walk: &mut Walk<'a, 'p, A>) -> Option<FoundFault>
+    requires { IsWellFormed walk.old.program.listing }
+    ensures program { walk.new.program ≡ walk.old.program }
+    ensures next { IfSome result (λ fault. faults_left walk.old
+        ≡ fault.number ∷ faults_left walk.new) }
+    ensures found { IfSome result (IsFaultOf walk.old.program) }
+    ensures end { result ≡ None → faults_left walk.old ≡ [] }
+    ensures stays { result ≡ None → faults_left walk.new ≡ [] }
+{
     while let Some(step) = walk.next_step() {
         if let Some(fault) = fault_in(step) {
             return Some(fault);

@@ -3,7 +3,7 @@ ghost use Rattle.std.specs.Prelude.{◌≡◌, ◌<◌, ◌≤◌, ◌^◌, [], 
 ghost use Rattle.programs.specs.declared.node.Node.TheVariants.{Do, Open, Close};
 ghost use Rattle.programs.specs.declared.step.TextStep.TheVariants.{Fault};
 ghost use Rattle.programs.specs.Steps.{is_step, is_fault_node};
-ghost use Rattle.programs.specs.Walks.{PassesBack};
+ghost use Rattle.programs.specs.Walks.{PassesBack, PassesOn};
 
 use crate::kept_node::{
     BlockSize, KeptNode, fault_of, is_fault, is_step, kept_step, node_of, step_of,
@@ -109,6 +109,20 @@ impl<A: Allocator + Copy> Nodes<A> {
             first -= 1;
         }
         first
+    }
+
+    /// Where the faults end that stand from an index on: those before `end`.
+    pub(crate) fn faults_ahead(&self, index: usize, end: usize) -> usize
+        requires end { index ≤ end }
+        requires within { end ≤ length self.now }
+        ensures { PassesOn (λ i. is_fault_node (slice_get self.now i)) end index result }
+    {
+        let kept = self.kept.as_slice();
+        let mut last = index;
+        while last < end && is_fault(kept[last]) {
+            last += 1;
+        }
+        last
     }
 
     /// The node at an index, if there is one.

@@ -1,5 +1,5 @@
 ghost use Rattle.std.specs.Prelude.{◌≡◌, ◌<◌, ◌+◌, ◌^◌, true, length, None, IfSome, slice_get};
-ghost use Rattle.programs.specs.Steps.{StandsIn, KeepsStep, MovesTo, IsNoOpen, IsNoClose, NextStep, PreviousStep, PreviousFault, PreviousFaults, is_step, is_fault_node, node_ahead, node_before};
+ghost use Rattle.programs.specs.Steps.{StandsIn, KeepsStep, MovesTo, IsNoOpen, IsNoClose, NextStep, NextFault, NextFaults, PreviousStep, PreviousFault, PreviousFaults, is_step, is_fault_node, node_ahead, node_before};
 
 use crate::node::Node;
 use crate::nodes::Nodes;
@@ -126,6 +126,38 @@ pub fn next<A: Allocator + Copy>(nodes: &Nodes<A>, place: &mut Place) -> Option<
     let index = place.index;
     place.index += 1;
     Some(nodes.step(index))
+}
+
+// Answers the entry of the fault after a place, and goes over it.
+#[inline(always)]
+pub fn next_fault<A: Allocator + Copy>(nodes: &Nodes<A>, place: &mut Place) -> Option<u32>
+    requires { StandsIn nodes.now place.old }
+    ensures { NextFault nodes.now place.old place.new result }
+{
+    if !go_to_step::<false, A>(nodes, place) {
+        return None;
+    }
+    let entry = match nodes.fault(place.index) {
+        Some(entry) => entry,
+        None => return None,
+    };
+    place.index += 1;
+    Some(entry)
+}
+
+// Goes forward over the faults that stand after a place in one turn, over `most` at most, and answers how many these are.
+#[inline(always)]
+pub fn next_faults<A: Allocator + Copy>(nodes: &Nodes<A>, place: &mut Place, most: usize) -> usize
+    requires { StandsIn nodes.now place.old }
+    ensures { NextFaults nodes.now place.old place.new most result }
+{
+    // Most steps that aren't faults are answered here.
+    if !go_to_step::<false, A>(nodes, place) || !nodes.is_fault(place.index) {
+        return 0;
+    }
+    let index = place.index;
+    place.index = nodes.faults_ahead(index, index.saturating_add(most).min(nodes.len()));
+    place.index - index
 }
 
 // Goes back over the starts of turns, to a place that isn't after one.

@@ -3,10 +3,12 @@ ghost use Rattle.step_model.specs.Listing.{Fault};
 ghost use Rattle.step_model.specs.WellFormed.{collapse_count};
 ghost use Rattle.programs.specs.Listed.{listed};
 ghost use Rattle.programs.specs.Named.{IsNamed, IsStepOf};
-ghost use Rattle.programs.specs.Turns.{records_before};
-ghost use Rattle.programs.specs.Walks.{PassesBack, is_fault};
+ghost use Rattle.programs.specs.Turns.{faults_before, records_before};
+ghost use Rattle.programs.specs.Walks.{PassesBack, ArePassed, PassesOver, is_fault};
 
-use crate::place::{Place, next, previous, previous_fault, previous_faults};
+use crate::place::{
+    Place, next, next_fault, next_faults, previous, previous_fault, previous_faults,
+};
 use crate::program::{Program, Text};
 use crate::step::{Counts, FaultName, Step, after, before, number};
 use arrayvec::ArrayVec;
@@ -111,6 +113,14 @@ impl<'a, 'p, A: Allocator + Copy> Walk<'a, 'p, A> {
         self.counts.collapses
     }
 
+    /// How many faults are before the place: the number of the next one.
+    #[inline(always)]
+    pub fn faults(&self) -> usize
+        ensures { result ≡ faults_before self.now.program.listing.steps self.now.place }
+    {
+        self.counts.faults as usize
+    }
+
     /// Answers the step after this place and goes over it. None at the end, where nothing changes.
     #[inline(always)]
     pub fn next_step(&mut self) -> Option<Step>
@@ -131,6 +141,74 @@ impl<'a, 'p, A: Allocator + Copy> Walk<'a, 'p, A> {
         self.counts = after(self.counts, step);
         self.steps += 1;
         Some(numbered)
+    }
+
+    /// Answers the fault after this place and goes over it. None where the step after is no fault, or at the end: then no step
+    /// is gone over.
+    #[inline(always)]
+    pub fn next_fault(&mut self) -> Option<FaultName>
+        ensures fault { IfSome result (λ name. slice_get self.old.program.listing.steps
+            self.old.place
+            ≡ Some (Fault name.number)) }
+        ensures named { IfSome result (IsNamed self.old.program) }
+        ensures none { result ≡ None
+            → is_fault (slice_get self.old.program.listing.steps self.old.place) ≡ false }
+        ensures program { self.new.program ≡ self.old.program }
+        ensures over { IfSome result (λ name. self.new.place ≡ self.old.place + 1) }
+        ensures stays { result ≡ None → self.new.place ≡ self.old.place }
+    {
+        let entry = match next_fault(self.text.nodes, &mut self.place) {
+            Some(entry) => entry,
+            None => return None,
+        };
+        let number = self.counts.faults;
+        self.counts.faults += 1;
+        self.steps += 1;
+        Some(FaultName { number, entry })
+    }
+
+    /// Whether a fault stands right after the place. At the end of a turn of a block it may be missed.
+    #[inline(always)]
+    pub fn is_before_fault(&self) -> bool
+        ensures { result ≡ true
+            → is_fault (slice_get self.now.program.listing.steps self.now.place) ≡ true }
+    {
+        self.text.nodes.is_fault(self.place.index)
+    }
+
+    /// Goes forward over the faults that stand right after the place, over `most` at most, and answers how many these are.
+    pub fn pass_faults(&mut self, most: usize) -> usize
+        ensures program { self.new.program ≡ self.old.program }
+        ensures place { self.new.place ≡ self.old.place + result }
+        ensures passed { PassesOver self.old.program.listing.steps self.old.place most result }
+    {
+        let mut passed = 0;
+        while passed < most {
+            let count = self.pass_turn(most - passed);
+            if count == 0 {
+                return passed;
+            }
+            passed += count;
+        }
+        passed
+    }
+
+    // Goes over those that stand in one turn of a block.
+    fn pass_turn(&mut self, most: usize) -> usize
+        requires { 0 < most }
+        ensures program { self.new.program ≡ self.old.program }
+        ensures place { self.new.place ≡ self.old.place + result }
+        ensures few { result ≤ most }
+        ensures each { ArePassed self.old.program.listing.steps self.old.place result }
+        ensures faults { faults_before self.old.program.listing.steps (self.old.place + result)
+            ≡ faults_before self.old.program.listing.steps self.old.place + result }
+        ensures stops { result ≡ 0
+            → is_fault (slice_get self.old.program.listing.steps self.old.place) ≡ false }
+    {
+        let count = next_faults(self.text.nodes, &mut self.place, most);
+        self.counts.faults += count as u32;
+        self.steps += count;
+        count
     }
 
     /// Answers the step before this place and goes back over it. None at the start, where nothing changes.

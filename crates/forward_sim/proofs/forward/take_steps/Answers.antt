@@ -1,8 +1,12 @@
--- Each step leads from what is left before it to what is left behind it.
-use Rattle.std.proofs.Common.{◌≡◌, length, ap, subst, ◌∙◌}
+-- Each step, and then the quiet faults behind it, lead from what is left before them to what is left behind them.
+use Rattle.std.proofs.Common.{◌≡◌, length, sym, ap, subst, ◌∙◌, arith}
+use Rattle.programs.specs.Kept.{KeptProgram}
+use Rattle.programs.specs.Turns.{faults_before}
 use Rattle.step_model.specs.Runs.{records_of, start}
 use Rattle.forward_sim.specs.private.Machines.{qubit_count, run_of}
 use Rattle.forward_sim.specs.private.SameRuns.{IsSameRun}
+use Rattle.forward_sim.specs.private.Quiet.{NoneHappens}
+use Rattle.forward_sim.proofs.QuietFaults.{along_quiet, none-later}
 use Rattle.forward_sim.proofs.RunLoops.{along_can, along_on, along_start}
 use Rattle.forward_sim.proofs.RunRecords.{length-records_of, records_at_end}
 use Rattle.forward_sim.proofs.WalkedSteps.{GoesOver, goes_over, nothing_left}
@@ -24,6 +28,7 @@ loop-step-init g c =
       along =
           along_start c.args.program.now.listing c.args.faults.now c.args.coins.now _ (qubit_count machine) machine.room (run_of machine) c.well_formed-2.ensures.listing c.start-walk.ensures.place
           (made.qubits ∙ c.qubits-qubits.ensures) (made.room ∙ c.record_count.ensures) (subst (λ n. IsSameRun n (run_of machine) (start c.args.coins.now)) c.qubits-qubits.ensures made.run);
+      none = λ f from to. absurd (omega arith);
     }
 
 pub take_step-requires : goal.take_step-requires
@@ -32,20 +37,36 @@ take_step-requires g c =
     let m = c.loop-step.machine in
     along_can c.args.program.now c.loop-step.walk c.next_step.new.self c.in-Some.step c.args.faults.now c.args.coins.now (qubit_count m) m.room (run_of m) c.well_formed-2.ensures.listing (over g here) c.loop-step.invariant.along
 
+pub pass_quiet-requires : goal.pass_quiet-requires
+pass_quiet-requires g c =
+    let here = (goal.at.pass_quiet-requires g c).In-Some in
+    let faults = c.args.faults.now in
+    let walk = c.loop-step.walk in
+    let after = c.next_step.new.self in
+    let hit = c.loop-step.hit in
+    subst (λ (p : KeptProgram). NoneHappens faults (faults_before p.listing.steps after.place) hit) (sym c.in-Some.ensures.program)
+    (none-later faults walk.program.listing.steps walk.place after.place hit (omega (arith, (over g here).place)) c.loop-step.invariant.none)
+
 pub loop-step-smaller : goal.loop-step-smaller
-loop-step-smaller g c = (over g (goal.at.loop-step-smaller g c).In-Some).smaller
+loop-step-smaller g c =
+    omega (arith, (over g (goal.at.loop-step-smaller g c).In-Some).smaller, c.pass_quiet.ensures.passed.place_is)
 
 pub loop-step-preserved : goal.loop-step-preserved
 loop-step-preserved g c =
     let walked = over g (goal.at.loop-step-preserved g c).In-Some in
+    let program = c.args.program.now in
     let m = c.loop-step.machine in
     let after = c.take_step.new.machine in
     let taken = c.take_step.ensures in
+    let passes = c.pass_quiet.ensures.passed in
+    let well = c.well_formed-2.ensures.listing in
     record {
-      program = walked.program_is;
+      program = passes.program_is ∙ walked.program_is;
       along =
-          along_on c.args.program.now c.loop-step.walk c.next_step.new.self c.in-Some.step c.args.faults.now c.args.coins.now (qubit_count m) m.room (run_of m) c.well_formed-2.ensures.listing walked c.loop-step.invariant.along
-          (qubit_count after) after.room (run_of after) taken.qubits taken.room taken.run;
+          along_quiet program c.args.faults.now c.args.coins.now c.next_step.new.self c.pass_quiet.new.walk (qubit_count after) after.room (run_of after) well walked.program_is passes
+          (along_on program c.loop-step.walk c.next_step.new.self c.in-Some.step c.args.faults.now c.args.coins.now (qubit_count m) m.room (run_of m) well walked c.loop-step.invariant.along
+          (qubit_count after) after.room (run_of after) taken.qubits taken.room taken.run);
+      none = c.pass_quiet.ensures.none;
     }
 
 -- at the end the records are those of the run

@@ -1,14 +1,17 @@
--- Each step carries the frames from what is left before it to what is left behind it.
-use Rattle.std.proofs.Common.{◌≡◌, ℕ, [], ◌∷◌, drop, refl, sym, ap, ◌∙◌, arith}
+-- Each step, and then the quiet faults behind it, carry the frames from what is left before them to what is left behind them.
+use Rattle.std.proofs.Common.{◌≡◌, ℕ, [], ◌∷◌, drop, refl, sym, ap, subst, ◌∙◌, arith}
 use Rattle.bit_rows.specs.Lanes.{lane}
+use Rattle.programs.specs.Kept.{KeptProgram}
+use Rattle.programs.specs.Turns.{faults_before}
+use Rattle.frames.specs.private.Quiet.{NoneHappens}
 use Rattle.forward_sim.proofs.WalkedSteps.{GoesOver, goes_over, listed_of, nothing_left}
 use Rattle.run_laws.specs.Shifts.{carried_over}
 use Rattle.frames.specs.Batches.{start_frame}
 use Rattle.frames.specs.Carried.{carried_frame}
 use Rattle.frames.specs.LaneFrames.{frame_in}
 use Rattle.frames.proofs.CarriedFrames.{carried-on, carried-room}
-use Rattle.frames.proofs.FollowedSteps.{no_turns}
-use Rattle.frames.proofs.StillFrames.{goes_nowhere, still-start}
+use Rattle.frames.proofs.QuietFaults.{carried-quiet, none-later}
+use Rattle.frames.proofs.StillFrames.{still-start}
 use Rattle.frames.proofs.alone.carry_alone.Given.{Over}
 use Rattle.frames.proofs.alone.carry_alone.Goals as goal
 use Rattle.frames.proofs.alone.carry_alone.Goals.{In-Some}
@@ -36,11 +39,12 @@ loop-step-init g c =
           ap (λ k. carried_over program [] (lane j c.args.faults.now) (drop k program.steps) (frame_in j c.args.frames.now)) c.start-walk.ensures.place
           ∙ ap (carried_over program [] (lane j c.args.faults.now) program.steps) (c.requires.start j ∙ ap start_frame c.requires.qubits);
       still = λ is. still-start c.args.frames.now c.requires.start;
+      none = λ f from to. absurd (omega arith);
     }
 
-pub take_step-requires-clause-room : goal.take_step-requires-clause-room
-take_step-requires-clause-room g c =
-    let here = (goal.at.take_step-requires-clause-room g c).In-Some in
+pub carry_over-still-requires-clause-room : goal.carry_over-still-requires-clause-room
+carry_over-still-requires-clause-room g c =
+    let here = (goal.at.carry_over-still-requires-clause-room g c).In-Some in
     let program = c.args.program.now in
     omega (
       arith,
@@ -49,43 +53,39 @@ take_step-requires-clause-room g c =
       carried-room program.listing (lane 0 c.args.faults.now) (listed_of program c.in-Some.step) (drop c.next_step.new.self.place program.listing.steps) c.loop-step.frames c.well_formed-2.ensures.listing (before g here 0),
     )
 
-pub take_step-requires-clause-turns : goal.take_step-requires-clause-turns
-take_step-requires-clause-turns g c = no_turns c.args.program.now.listing.qubits (listed_of c.args.program.now c.in-Some.step)
-
-pub loop-step-smaller-then-not-is_quiet : goal.loop-step-smaller-then-not-is_quiet
-loop-step-smaller-then-not-is_quiet g c = (over g (goal.at.loop-step-smaller-then-not-is_quiet g c).In-Some).smaller
-
-pub loop-step-preserved-then-not-is_quiet : goal.loop-step-preserved-then-not-is_quiet
-loop-step-preserved-then-not-is_quiet g c =
-    let here = (goal.at.loop-step-preserved-then-not-is_quiet g c).In-Some in
-    let program = c.args.program.now in
-    record {
-      program = (over g here).program_is;
-      qubits = c.take_step.ensures.qubits ∙ c.loop-step.invariant.qubits;
-      room = c.take_step.ensures.room ∙ c.loop-step.invariant.room;
-      carried =
-          carried-on program.listing c.args.faults.now (listed_of program c.in-Some.step) (drop c.next_step.new.self.place program.listing.steps) 0 c.loop-step.frames c.take_step.new.frames
-          (λ j. carried_frame program.listing (lane j c.args.faults.now)) c.take_step.ensures (before g here);
-      still = λ is. cc;
-    }
+pub pass_quiet-requires : goal.pass_quiet-requires
+pass_quiet-requires g c =
+    let here = (goal.at.pass_quiet-requires g c).In-Some in
+    let faults = c.args.faults.now in
+    let walk = c.loop-step.walk in
+    let after = c.next_step.new.self in
+    let hit = c.loop-step.hit in
+    subst (λ (p : KeptProgram). NoneHappens faults (faults_before p.listing.steps after.place) hit) (sym c.in-Some.ensures.program)
+    (none-later faults walk.program.listing.steps walk.place after.place hit (omega (arith, (over g here).place)) c.loop-step.invariant.none)
 
 pub loop-step-smaller : goal.loop-step-smaller
-loop-step-smaller g c = (over g (goal.at.loop-step-smaller g c).In-Some).smaller
+loop-step-smaller g c =
+    omega (arith, (over g (goal.at.loop-step-smaller g c).In-Some).smaller, c.pass_quiet.ensures.passed.place_is)
 
 pub loop-step-preserved : goal.loop-step-preserved
 loop-step-preserved g c =
     let here = (goal.at.loop-step-preserved g c).In-Some in
     let program = c.args.program.now in
+    let faults = c.args.faults.now in
+    let after = c.next_step.new.self in
+    let frames = c.carry_over-still.new.frames in
+    let goes = c.carry_over-still.ensures.goes in
+    let passes = c.pass_quiet.ensures.passed in
+    let ends = λ (j : ℕ). carried_frame program.listing (lane j faults) in
     record {
-      program = (over g here).program_is;
-      qubits = c.loop-step.invariant.qubits;
-      room = c.loop-step.invariant.room;
+      program = passes.program_is ∙ (over g here).program_is;
+      qubits = goes.qubits ∙ c.loop-step.invariant.qubits;
+      room = goes.room ∙ c.loop-step.invariant.room;
       carried =
-          carried-on program.listing c.args.faults.now (listed_of program c.in-Some.step) (drop c.next_step.new.self.place program.listing.steps) 0 c.loop-step.frames c.loop-step.frames
-          (λ j. carried_frame program.listing (lane j c.args.faults.now))
-          (goes_nowhere program.listing program.products c.args.faults.now 0 c.loop-step.still c.in-Some.step c.loop-step.frames (c.is_quiet.ensures c.if-not-is_quiet.false) c.loop-step.invariant.still)
-          (before g here);
-      still = c.loop-step.invariant.still;
+          carried-quiet program faults frames ends after c.pass_quiet.new.walk (over g here).program_is passes
+          (carried-on program.listing faults (listed_of program c.in-Some.step) (drop after.place program.listing.steps) 0 c.loop-step.frames frames ends goes (before g here));
+      still = c.carry_over-still.ensures.still;
+      none = c.pass_quiet.ensures.none;
     }
 
 pub returns-clause-carried : goal.returns-clause-carried

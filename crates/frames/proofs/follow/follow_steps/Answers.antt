@@ -1,10 +1,13 @@
--- Each step leads the runs and the reference run from what is left before it to what is left behind it.
+-- Each step, and then the quiet faults behind it, lead the runs and the reference run from what is left before them to what is
+-- left behind them.
 use Rattle.std.proofs.Common.{ℕ, Bool, List, [], ◌∷◌, ◌≡◌, true, false, length, drop, refl, sym, ap, subst, ◌∙◌, arith}
 use Rattle.forward_sim.specs.References.{GoneOver, ReferenceRun, StandBefore}
 use Rattle.forward_sim.proofs.RunRecords.{length-records_of}
 use Rattle.forward_sim.proofs.WalkedSteps.{GoesOver, goes_over, listed_of, nothing_left}
 use Rattle.bit_rows.specs.Lanes.{lane, lane_bit}
+use Rattle.programs.specs.Kept.{KeptProgram}
 use Rattle.programs.specs.Listed.{listed}
+use Rattle.programs.specs.Turns.{faults_before}
 use Rattle.step_model.specs.Frames.{zero_coins}
 use Rattle.step_model.specs.Listing.{ListedStep, is_collapse}
 use Rattle.step_model.specs.Runs.{RunState}
@@ -13,9 +16,12 @@ use Rattle.step_model.proofs.StepNumbers.{fits_at}
 use Rattle.step_model.specs.declared.step.Term.{Term}
 use Rattle.frames.specs.Batches.{start_frame}
 use Rattle.frames.specs.private.Followed.{TurnsAt, followed}
+use Rattle.frames.specs.private.Quiet.{NoneAhead, NoneHappens}
 use Rattle.frames.specs.LaneFrames.{GoesTo}
 use Rattle.frames.proofs.Beside.{Beside, beside-start, beside-other, beside-collapse, beside-room, beside-end, entry-turns}
-use Rattle.frames.proofs.StillFrames.{goes_nowhere, still-start}
+use Rattle.frames.proofs.QuietBeside.{beside-quiet}
+use Rattle.frames.proofs.QuietFaults.{none-later}
+use Rattle.frames.proofs.StillFrames.{still-start}
 use Rattle.frames.proofs.follow.follow_steps.Given.{Over}
 use Rattle.frames.proofs.follow.follow_steps.Goals as goal
 use Rattle.frames.proofs.follow.follow_steps.Goals.{In-Some}
@@ -28,6 +34,16 @@ over g c =
 before : (g : Over) (c : In-Some g) → Beside c.args.program.now.listing c.loop-step.reference c.args.faults.now c.args.coins.now (listed_of c.args.program.now c.in-Some.step ∷ drop c.next_step.new.self.place c.args.program.now.listing.steps) c.loop-step.collapse c.loop-step.frames
 before g c =
     subst (λ steps. Beside c.args.program.now.listing c.loop-step.reference c.args.faults.now c.args.coins.now steps c.loop-step.collapse c.loop-step.frames) (over g c).left c.loop-step.invariant.beside
+
+-- no fault ahead of the step that was gone over happens, up to the same number
+ahead : (g : Over) (c : In-Some g) → NoneAhead c.args.faults.now c.next_step.new.self c.loop-step.hit
+ahead g c =
+    let faults = c.args.faults.now in
+    let walk = c.loop-step.walk in
+    let after = c.next_step.new.self in
+    let hit = c.loop-step.hit in
+    subst (λ (p : KeptProgram). NoneHappens faults (faults_before p.listing.steps after.place) hit) (sym c.in-Some.ensures.program)
+    (none-later faults walk.program.listing.steps walk.place after.place hit (omega (arith, (over g c).place)) c.loop-step.invariant.none)
 
 pub loop-step-init : goal.loop-step-init
 loop-step-init g c =
@@ -45,6 +61,7 @@ loop-step-init g c =
           (beside-start program reference c.args.faults.now c.args.coins.now f c.well_formed-2.ensures.listing c.requires.reference c.requires.stands
           (λ j. c.requires.start j ∙ ap start_frame c.requires.qubits));
       still = λ is. still-start f c.requires.start;
+      none = λ f from to. absurd (omega arith);
     }
 
 pub go_over-requires-clause-next : goal.go_over-requires-clause-next
@@ -110,37 +127,20 @@ loop-step-preserved-then-is_collapse g c =
           (fits g here) (collapses g here c.is_collapse.result c.is_collapse.ensures true c.if-is_collapse.true) (before g here) c.go_over.ensures.records (gone g here after c.go_over.ensures.over) c.word_at.ensures
           (subst (λ entry. GoesTo c.loop-step.frames c.take_step.new.frames (λ j v. followed program (lane j c.args.faults.now) entry (lane_bit j c.word_at.result) (listed_of c.args.program.now c.in-Some.step) v)) c.replaced-replaced.ensures c.take_step.ensures);
       still = λ is. cc;
+      none = ahead g here;
     }
 
-pub take_step-requires-then-not-is_quiet-clause-room : goal.take_step-requires-then-not-is_quiet-clause-room
-take_step-requires-then-not-is_quiet-clause-room g c =
-    let here = (goal.at.take_step-requires-then-not-is_quiet-clause-room g c).In-Some in
+pub carry_over-still-requires-clause-room : goal.carry_over-still-requires-clause-room
+carry_over-still-requires-clause-room g c =
+    let here = (goal.at.carry_over-still-requires-clause-room g c).In-Some in
     omega (arith, c.requires.room, c.loop-step.invariant.room, beside-room c.args.program.now.listing c.loop-step.reference c.args.faults.now c.args.coins.now (listed_of c.args.program.now c.in-Some.step) (drop c.next_step.new.self.place c.args.program.now.listing.steps) c.loop-step.collapse c.loop-step.frames (count g here) (before g here))
 
-pub loop-step-smaller-then-not-is_quiet : goal.loop-step-smaller-then-not-is_quiet
-loop-step-smaller-then-not-is_quiet g c = (over g (goal.at.loop-step-smaller-then-not-is_quiet g c).In-Some).smaller
-
-pub loop-step-preserved-then-not-is_quiet : goal.loop-step-preserved-then-not-is_quiet
-loop-step-preserved-then-not-is_quiet g c =
-    let here = (goal.at.loop-step-preserved-then-not-is_quiet g c).In-Some in
-    let walked = over g here in
-    let program = c.args.program.now.listing in
-    let after = c.go_over.new.self in
-    record {
-      program = walked.program_is;
-      qubits = c.take_step-then-not-is_quiet.ensures.qubits ∙ c.loop-step.invariant.qubits;
-      room = c.take_step-then-not-is_quiet.ensures.room ∙ c.loop-step.invariant.room;
-      reference = c.go_over.ensures.reference c.loop-step.invariant.reference;
-      records = c.go_over.ensures.records ∙ c.loop-step.invariant.records;
-      beside =
-          beside-other program c.loop-step.reference after c.args.faults.now c.args.coins.now (listed_of c.args.program.now c.in-Some.step) (drop c.next_step.new.self.place program.steps) c.loop-step.collapse 0 c.loop-step.frames c.take_step-then-not-is_quiet.new.frames
-          (fits g here) (collapses g here c.is_collapse.result c.is_collapse.ensures false c.if-is_collapse.false) (before g here) c.go_over.ensures.records (gone g here after c.go_over.ensures.over)
-          c.take_step-then-not-is_quiet.ensures;
-      still = λ is. cc;
-    }
+pub pass_quiet-requires : goal.pass_quiet-requires
+pass_quiet-requires g c = ahead g (goal.at.pass_quiet-requires g c).In-Some
 
 pub loop-step-smaller : goal.loop-step-smaller
-loop-step-smaller g c = (over g (goal.at.loop-step-smaller g c).In-Some).smaller
+loop-step-smaller g c =
+    omega (arith, (over g (goal.at.loop-step-smaller g c).In-Some).smaller, c.pass_quiet.ensures.passed.place_is)
 
 pub loop-step-preserved : goal.loop-step-preserved
 loop-step-preserved g c =
@@ -148,17 +148,21 @@ loop-step-preserved g c =
     let walked = over g here in
     let program = c.args.program.now.listing in
     let after = c.go_over.new.self in
+    let frames = c.carry_over-still.new.frames in
+    let goes = c.carry_over-still.ensures.goes in
+    let passes = c.pass_quiet.ensures.passed in
     record {
-      program = walked.program_is;
-      qubits = c.loop-step.invariant.qubits;
-      room = c.loop-step.invariant.room;
+      program = passes.program_is ∙ walked.program_is;
+      qubits = goes.qubits ∙ c.loop-step.invariant.qubits;
+      room = goes.room ∙ c.loop-step.invariant.room;
       reference = c.go_over.ensures.reference c.loop-step.invariant.reference;
       records = c.go_over.ensures.records ∙ c.loop-step.invariant.records;
       beside =
-          beside-other program c.loop-step.reference after c.args.faults.now c.args.coins.now (listed_of c.args.program.now c.in-Some.step) (drop c.next_step.new.self.place program.steps) c.loop-step.collapse 0 c.loop-step.frames c.loop-step.frames
-          (fits g here) (collapses g here c.is_collapse.result c.is_collapse.ensures false c.if-is_collapse.false) (before g here) c.go_over.ensures.records (gone g here after c.go_over.ensures.over)
-          (goes_nowhere program c.args.program.now.products c.args.faults.now 0 c.loop-step.still c.in-Some.step c.loop-step.frames (c.is_quiet.ensures c.if-not-is_quiet.false) c.loop-step.invariant.still);
-      still = c.loop-step.invariant.still;
+          beside-quiet c.args.program.now after c.args.faults.now c.args.coins.now c.loop-step.collapse frames c.next_step.new.self c.pass_quiet.new.walk c.well_formed-2.ensures.listing walked.program_is passes
+          (beside-other program c.loop-step.reference after c.args.faults.now c.args.coins.now (listed_of c.args.program.now c.in-Some.step) (drop c.next_step.new.self.place program.steps) c.loop-step.collapse 0 c.loop-step.frames frames
+          (fits g here) (collapses g here c.is_collapse.result c.is_collapse.ensures false c.if-is_collapse.false) (before g here) c.go_over.ensures.records (gone g here after c.go_over.ensures.over) goes);
+      still = c.carry_over-still.ensures.still;
+      none = c.pass_quiet.ensures.none;
     }
 
 pub returns-clause-runs : goal.returns-clause-runs

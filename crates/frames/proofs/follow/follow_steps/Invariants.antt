@@ -1,6 +1,7 @@
 use Rattle.std.proofs.Common.{◌≡◌, ◌-◌, true, length, drop}
 use Rattle.forward_sim.specs.References.{IsReferenceOf}
 use Rattle.frames.specs.private.Followed.{AreStill}
+use Rattle.frames.specs.private.Quiet.{NoneAhead}
 use Rattle.frames.proofs.Beside.{Beside}
 use Rattle.frames.proofs.follow.follow_steps.Given as goal
 
@@ -15,6 +16,7 @@ invariant-loop-step g l =
       records : l.reference.records ≡ l.fn.reference.records;
       beside : Beside l.program.listing l.reference l.faults l.coins (drop l.walk.place l.program.listing.steps) l.collapse l.frames;
       still : l.still ≡ true → AreStill l.frames;
+      none : NoneAhead l.faults l.walk l.hit;
     }
 
 abbrev pub decreases-loop-step : goal.decreases-loop-step

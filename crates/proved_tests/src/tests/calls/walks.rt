@@ -121,15 +121,26 @@ fn answers_fault(walk: &Walk<'_, '_, Global>, step: &Step) -> bool {
     }
 }
 
+// Whether the step after a walk is answered as a fault, and gone over, just where it is one.
+fn answers_next_fault(walk: &Walk<'_, '_, Global>, step: &Step) -> bool {
+    let mut walk = walk.copy();
+    match walk.next_fault() {
+        Some(name) => *step == Step::Fault(name) && walk.previous_step() == Some(*step),
+        None => !matches!(step, Step::Fault(_)) && walk.next_step() == Some(*step),
+    }
+}
+
 // Goes over each step forth, back and forth again, and then back to the start.
 fn walks_over(program: &Program<'_, Global>, steps: &[Step]) -> bool {
     let mut walk = Walk::start(program);
     let mut all = true;
     for step in steps {
+        all &= answers_next_fault(&walk, step);
         all &= goes_forth(&mut walk, step);
         all &= goes_back(&mut walk, step);
         all &= goes_forth(&mut walk, step);
     }
+    all &= walk.next_fault().is_none();
     all &= walk.next_step().is_none();
     for step in steps.iter().rev() {
         all &= goes_back(&mut walk, step);
@@ -240,6 +251,51 @@ fn passes_over_faults(rt: HostRuntime) {
         assert!(rt; matches!(pass_holds(rt.alloc(), row), Ok(true)), "{row}");
     }
     assert!(rt; PASSES.lines().count() == 6);
+}
+
+/// A row a circuit: its lines; how many steps a walk goes over first, how many faults it may pass then, how many it passes, and
+/// how many faults are before it there; and the step after that.
+const PASSES_ON: &str = "\
+# over the turns of a block | X 0 | X_ERROR(1) 0 | REPEAT 2 { | X_ERROR(1) 1 2 | } | X 0 = 1955 = X
+# so many at most | X_ERROR(1) 0 | REPEAT 2 { | X_ERROR(1) 1 2 | } | X 0 = 1223 = F31
+# the flip of a record is no fault of its own | X_ERROR(1) 0 | M(0.5) 0 | X_ERROR(1) 0 = 0911 = M011
+X_ERROR(1) 0 1 | X 0 = 1001 = F11
+X_ERROR(1) 0 1 = 0922 = -
+X 0 | X_ERROR(1) 0 = 0900 = X
+";
+
+// Whether a walk that has gone over some steps passes over so many faults, and the step after them is this one.
+fn passes_on(program: &Program<'_, Global>, numbers: &[u8], word: &[u8]) -> bool {
+    let (Some(steps), Some(most)) = (digit(numbers, 0), digit(numbers, 1)) else {
+        return false;
+    };
+    let mut walk = Walk::start(program);
+    for _ in 0..steps {
+        let _step = walk.next_step();
+    }
+    let passed = walk.pass_faults(most as usize);
+    (digit(numbers, 2).map(|n| n as usize) == Some(passed))
+        & (digit(numbers, 3).map(|n| n as usize) == Some(walk.faults()))
+        & (walk.next_step() == step_of(word))
+}
+
+fn pass_on_holds(alloc: Global, row: &str) -> Result<bool, Fault> {
+    match parts_of(row) {
+        Some((circuit, numbers, word)) => {
+            let text = text_of(alloc, circuit)?;
+            let program = read_program(alloc, text.as_slice())?;
+            Ok(passes_on(&program, numbers.as_bytes(), word.as_bytes()))
+        }
+        None => Ok(false),
+    }
+}
+
+#[test]
+fn passes_on_over_faults(rt: HostRuntime) {
+    for row in PASSES_ON.lines() {
+        assert!(rt; matches!(pass_on_holds(rt.alloc(), row), Ok(true)), "{row}");
+    }
+    assert!(rt; PASSES_ON.lines().count() == 6);
 }
 
 /// A measurement in three blocks of two turns inside 29 of one.

@@ -1,6 +1,6 @@
 use Rattle.std.proofs.Common.{◌≡◌, ◌-◌, length}
 use Rattle.programs.specs.Found.{faults_left}
-use Rattle.programs.proofs.fault_walk.next_fault.Given as goal
+use Rattle.programs.proofs.fault_walk.find_fault.Given as goal
 
 -- no fault was met yet
 abbrev pub invariant-loop-step : goal.invariant-loop-step

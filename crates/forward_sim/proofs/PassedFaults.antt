@@ -1,0 +1,43 @@
+-- Faults that a walk passes over at once.
+use Rattle.std.proofs.Common.{◌≡◌, ℕ, zero, suc, ◌+◌, ◌<◌, ◌≤◌, List, [], ◌∷◌, take, sym, ap, subst, ◌∙◌, arith, length-append}
+use Rattle.std.specs.Prelude.{Some, slice_get}
+use Rattle.programs.specs.Turns.{faults_before}
+use Rattle.programs.specs.Walks.{ArePassed}
+use Rattle.step_model.specs.Listing.{ListedStep, Fault}
+use Rattle.step_model.specs.WellFormed.{faults_named, step_faults}
+
+-- the steps before a later place name as many faults or more
+pub faults_before-later : (steps : List ListedStep) (k m : ℕ) → k ≤ m → faults_before steps k ≤ faults_before steps m
+faults_before-later [] zero m h = omega arith
+faults_before-later [] (suc k) zero h = omega arith
+faults_before-later [] (suc k) (suc m) h = omega arith
+faults_before-later (step ∷ steps) zero m h = omega arith
+faults_before-later (step ∷ steps) (suc k) zero h = absurd (omega arith)
+faults_before-later (step ∷ steps) (suc k) (suc m) h =
+    omega (
+      arith,
+      faults_before-later steps k m (omega arith),
+      length-append (step_faults step) (faults_named (take k steps)),
+      length-append (step_faults step) (faults_named (take m steps)),
+    )
+
+-- what holds before a fault of some kind and then behind it, holds behind all that are passed, where all are of this kind
+module _ (holds kind : ℕ → Type 0) (steps : List ListedStep) (over : (k f : ℕ) → slice_get steps k ≡ Some (Fault f) → kind f → holds k → holds (k + 1)) where
+  behind_each : (count place number : ℕ) → ((i : ℕ) → i < count → slice_get steps (place + i) ≡ Some (Fault (number + i))) → ((f : ℕ) → number ≤ f → f < number + count → kind f) → holds place → holds (place + count)
+  behind_each zero place number each all before = let same : place ≡ place + 0 = omega arith in subst holds same before
+  behind_each (suc count) place number each all before =
+      let first : place + 0 ≡ place = omega arith in
+      let named : number + 0 ≡ number = omega arith in
+      let here : slice_get steps place ≡ Some (Fault number) = ap (slice_get steps) (sym first) ∙ each 0 (omega arith) ∙ ap (λ f. Some (Fault f)) named in
+      let later : place + 1 + count ≡ place + suc count = omega arith in
+      subst holds later
+      (behind_each count (place + 1) (number + 1)
+      (λ i below.
+      let there : place + 1 + i ≡ place + suc i = omega arith in
+      let next : number + suc i ≡ number + 1 + i = omega arith in
+      ap (slice_get steps) there ∙ each (suc i) (omega arith) ∙ ap (λ f. Some (Fault f)) next)
+      (λ f from to. all f (omega arith) (omega arith))
+      (over place number here (all number (omega arith) (omega arith)) before))
+
+  pub behind_passed : (place count : ℕ) → ArePassed steps place count → ((f : ℕ) → faults_before steps place ≤ f → f < faults_before steps place + count → kind f) → holds place → holds (place + count)
+  behind_passed place count each all before = behind_each count place (faults_before steps place) each all before
