@@ -253,10 +253,10 @@ fn shall_wait<A: Allocator + Copy>(
     requires { qubit < row_count tableau.now }
     ensures { result ≡ true → 0 < room }
 {
-    if waiting > 0 {
-        return room > 0 && decided < MOST_DECIDED;
+    if waiting == 0 {
+        return room > 0 && tableau.seems_dense(letter, qubit);
     }
-    room > 0 && tableau.seems_dense(letter, qubit)
+    room > 0 && decided < MOST_DECIDED
 }
 
 // How many outcomes were decided since a turn last came to wait, after a measurement before and after which so many waited.
