@@ -19,8 +19,8 @@ const MOST_DECIDED: usize = 16;
 
 /// A tableau that many measurements with random outcomes change in one pass over its rows. It does what `Tableau` does.
 ///
-/// The turns of measured letters wait until there is no room for more, or until anything else is asked. A letter measured
-/// while turns wait looks at a copy of one row, for which they are made. Only `start` allocates.
+/// The turns of measured letters, if they are dense, wait until there is no room for more, or until anything else is asked. A
+/// letter that is measured while turns wait has them made of a copy of its row. Only `start` allocates.
 pub struct WaitingTableau<A: Allocator + Copy> {
     tableau: Tableau<A>,
     // the first `waiting` of these wait
