@@ -19,8 +19,8 @@ const MOST_DECIDED: usize = 16;
 
 /// A tableau that many measurements with random outcomes change in one pass over its rows. It does what `Tableau` does.
 ///
-/// The turns of measured letters wait until there is no room for more, or until anything else is asked. A letter measured
-/// while turns wait looks at a copy of one row, for which they are made. Only `start` allocates.
+/// The turns of measured letters, if they are dense, wait until there is no room for more, or until anything else is asked. A
+/// letter that is measured while turns wait has them made of a copy of its row. Only `start` allocates.
 pub struct WaitingTableau<A: Allocator + Copy> {
     tableau: Tableau<A>,
     // the first `waiting` of these wait
@@ -253,10 +253,10 @@ fn shall_wait<A: Allocator + Copy>(
     requires { qubit < row_count tableau.now }
     ensures { result ≡ true → 0 < room }
 {
-    if waiting > 0 {
-        return room > 0 && decided < MOST_DECIDED;
+    if waiting == 0 {
+        return room > 0 && tableau.seems_dense(letter, qubit);
     }
-    room > 0 && tableau.seems_dense(letter, qubit)
+    room > 0 && decided < MOST_DECIDED
 }
 
 // How many outcomes were decided since a turn last came to wait, after a measurement before and after which so many waited.

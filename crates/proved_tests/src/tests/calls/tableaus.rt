@@ -143,6 +143,7 @@ fn xs_are_measured(tableau: &mut WaitingTableau<Global>) -> bool
 fn zs_are_random(tableau: &mut WaitingTableau<Global>, word: &Word<Global>) -> bool
     requires tableau { row_count tableau.old.rows ≡ 2 }
     requires word { length word.now.letters ≡ 2 }
+    ensures { row_count tableau.new.rows ≡ 2 }
 {
     let product = tableau.measure_word(word, true);
     let is_decided = tableau.random_row_of_word(word).is_none();
