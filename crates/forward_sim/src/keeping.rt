@@ -10,6 +10,7 @@ ghost use Rattle.forward_sim.specs.private.Machines.{CanTake};
 ghost use Rattle.forward_sim.specs.private.SameRuns.{IsSameRun};
 
 use crate::kept_words::KeptWords;
+use crate::quiet::pass_quiet;
 use crate::records::Records;
 use crate::walking::WalkingRun;
 use crate::words::ReplacedWords;
@@ -93,8 +94,11 @@ fn follow_steps<A: Allocator + Copy>(
 {
     program.well_formed();
     let mut steps = Walk::start(program);
+    let mut hit = 0;
     while let Some(step) = steps.next_step() {
         keep_step(walk, program, kept, step)?;
+        // No fault happens at all.
+        pass_quiet(&mut steps, &[], &mut hit, step);
     }
     Ok(walk.take_records(alloc))
 }

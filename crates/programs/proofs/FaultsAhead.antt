@@ -1,8 +1,7 @@
 -- What a walk keeps over the faults that it passes on its way forward.
-use Rattle.std.proofs.Common.{◌≡◌, ℕ, zero, suc, inl, inr, ◌+◌, ◌-◌, ◌<◌, ◌≤◌, ◌^◌, List, true, false, Option, None, Some, refl, ap, subst, sym, ◌∙◌, arith}
+use Rattle.std.proofs.Common.{◌≡◌, ℕ, zero, suc, ◌+◌, ◌<◌, ◌≤◌, ◌^◌, true, false, Option, None, Some, refl, ap, subst, sym, ◌∙◌, arith}
 use Rattle.std.specs.Prelude.{slice_get}
-use Rattle.std.proofs.lemmas.Bool.{cases_lt}
-use Rattle.step_model.specs.Listing.{ListedStep, Fault}
+use Rattle.step_model.specs.Listing.{Fault}
 use Rattle.programs.specs.declared.node.Node.{Node}
 use Rattle.programs.specs.declared.node.Node.TheVariants.{Do}
 use Rattle.programs.specs.declared.place.Place.{Place}
@@ -14,7 +13,6 @@ use Rattle.programs.specs.Named.{IsNamed}
 use Rattle.programs.specs.Numbering.{counts_after, named, no_counts}
 use Rattle.programs.specs.Steps.{NextFault, NextFaults, StaysBeforeNoFault, is_fault_node, is_step}
 use Rattle.programs.specs.Trees.{tree_of, unrolled}
-use Rattle.programs.specs.Turns.{faults_before}
 use Rattle.programs.specs.Walks.{ArePassed, is_fault}
 use Rattle.programs.specs.private.WalkStates.{IsWalkOf}
 use Rattle.programs.proofs.FaultRuns.{fault_there, listed_fault}
@@ -134,15 +132,14 @@ module _ {A : Type 0} (program : KeptProgram) (text : Text A) where
       } in
       record { walk = after; none = no_fault new counted k (slice_get text.nodes.now new.index) after refl stays.none stays.end }
 
-  pub record Ahead (new : Place) (counted : Counts) (k count : ℕ) : Type 0 where
+  pub record Ahead (new : Place) (counted : Counts) (k most count : ℕ) : Type 0 where
     pub over : AreAhead new counted k count
     pub few : count < 2 ^ 32
     pub passed : ArePassed program.listing.steps k count
-    pub faults : faults_before program.listing.steps (k + count) ≡ faults_before program.listing.steps k + count
-    pub none : count ≡ 0 → is_fault (slice_get program.listing.steps k) ≡ false
+    pub none : 0 < most → count ≡ 0 → is_fault (slice_get program.listing.steps k) ≡ false
 
-  pub ahead : (old new : Place) (counted : Counts) (k most count : ℕ) → IsWalkOf program text old counted k → NextFaults text.nodes.now old new most count → 0 < most → Ahead new counted k count
-  ahead old new counted k most count both went some =
+  pub ahead : (old new : Place) (counted : Counts) (k most count : ℕ) → IsWalkOf program text old counted k → NextFaults text.nodes.now old new most count → Ahead new counted k most count
+  ahead old new counted k most count both went =
       let walk = both.walk in
       let first : Place = record { index = went.first; turns = new.turns } in
       let moved : IsWalkOf program text first counted k = record {
@@ -155,17 +152,5 @@ module _ {A : Type 0} (program : KeptProgram) (text : Text A) where
         over = over;
         few = omega (arith, over.few_steps);
         passed = λ i below. over.each i below ∙ ap (λ f. Some (Fault (f + i))) number;
-        faults = omega (arith, number, (are_counted program text new (more counted count) (k + count) over.walk).faults);
-        none = λ z. no_fault first counted k (slice_get text.nodes.now went.first) moved refl (went.none some z) (λ s. went.end s z);
+        none = λ some z. no_fault first counted k (slice_get text.nodes.now went.first) moved refl (went.none some z) (λ s. went.end s z);
       }
-
--- faults that follow others
-pub joined : (steps : List ListedStep) (place passed at count : ℕ) → ArePassed steps place passed → faults_before steps at ≡ faults_before steps place + passed → at ≡ place + passed → ArePassed steps at count → ArePassed steps place (passed + count)
-joined steps place passed at count first number here second i below =
-    elim (cases_lt i passed) [
-      | inl before ↦ first i before
-      | inr behind ↦
-          let there : at + (i - passed) ≡ place + i = omega (arith, here) in
-          let named : faults_before steps at + (i - passed) ≡ faults_before steps place + i = omega (arith, number) in
-          ap (slice_get steps) (sym there) ∙ second (i - passed) (omega (arith, below)) ∙ ap (λ f. Some (Fault f)) named
-    ]

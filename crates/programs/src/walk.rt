@@ -4,7 +4,7 @@ ghost use Rattle.step_model.specs.WellFormed.{collapse_count};
 ghost use Rattle.programs.specs.Listed.{listed};
 ghost use Rattle.programs.specs.Named.{IsNamed, IsStepOf};
 ghost use Rattle.programs.specs.Turns.{faults_before, records_before};
-ghost use Rattle.programs.specs.Walks.{PassesBack, ArePassed, PassesOver, is_fault};
+ghost use Rattle.programs.specs.Walks.{PassesBack, PassesOver, is_fault};
 
 use crate::place::{
     Place, next, next_fault, next_faults, previous, previous_fault, previous_faults,
@@ -176,34 +176,13 @@ impl<'a, 'p, A: Allocator + Copy> Walk<'a, 'p, A> {
         self.text.nodes.is_fault(self.place.index)
     }
 
-    /// Goes forward over the faults that stand right after the place, over `most` at most, and answers how many these are.
+    /// Goes forward over the faults that stand right after the place in one turn of a block, over `most` at most, and answers
+    /// how many these are.
+    #[inline(always)]
     pub fn pass_faults(&mut self, most: usize) -> usize
         ensures program { self.new.program ≡ self.old.program }
         ensures place { self.new.place ≡ self.old.place + result }
         ensures passed { PassesOver self.old.program.listing.steps self.old.place most result }
-    {
-        let mut passed = 0;
-        while passed < most {
-            let count = self.pass_turn(most - passed);
-            if count == 0 {
-                return passed;
-            }
-            passed += count;
-        }
-        passed
-    }
-
-    // Goes over those that stand in one turn of a block.
-    fn pass_turn(&mut self, most: usize) -> usize
-        requires { 0 < most }
-        ensures program { self.new.program ≡ self.old.program }
-        ensures place { self.new.place ≡ self.old.place + result }
-        ensures few { result ≤ most }
-        ensures each { ArePassed self.old.program.listing.steps self.old.place result }
-        ensures faults { faults_before self.old.program.listing.steps (self.old.place + result)
-            ≡ faults_before self.old.program.listing.steps self.old.place + result }
-        ensures stops { result ≡ 0
-            → is_fault (slice_get self.old.program.listing.steps self.old.place) ≡ false }
     {
         let count = next_faults(self.text.nodes, &mut self.place, most);
         self.counts.faults += count as u32;

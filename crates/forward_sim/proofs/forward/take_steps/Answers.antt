@@ -63,7 +63,7 @@ loop-step-preserved g c =
     record {
       program = passes.program_is ∙ walked.program_is;
       along =
-          along_quiet program c.args.faults.now c.args.coins.now c.next_step.new.self c.pass_quiet.new.walk (qubit_count after) after.room (run_of after) well walked.program_is passes
+          along_quiet program well c.next_step.new.self c.pass_quiet.new.walk walked.program_is (qubit_count after) after.room (run_of after) c.args.faults.now c.args.coins.now passes
           (along_on program c.loop-step.walk c.next_step.new.self c.in-Some.step c.args.faults.now c.args.coins.now (qubit_count m) m.room (run_of m) well walked c.loop-step.invariant.along
           (qubit_count after) after.room (run_of after) taken.qubits taken.room taken.run);
       none = c.pass_quiet.ensures.none;

@@ -256,7 +256,8 @@ fn passes_over_faults(rt: HostRuntime) {
 /// A row a circuit: its lines; how many steps a walk goes over first, how many faults it may pass then, how many it passes, and
 /// how many faults are before it there; and the step after that.
 const PASSES_ON: &str = "\
-# over the turns of a block | X 0 | X_ERROR(1) 0 | REPEAT 2 { | X_ERROR(1) 1 2 | } | X 0 = 1955 = X
+# to the end of a turn | X 0 | X_ERROR(1) 0 | REPEAT 2 { | X_ERROR(1) 1 2 | } | X 0 = 1911 = F11
+# from it on | X 0 | X_ERROR(1) 0 | REPEAT 2 { | X_ERROR(1) 1 2 | } | X 0 = 4925 = X
 # so many at most | X_ERROR(1) 0 | REPEAT 2 { | X_ERROR(1) 1 2 | } | X 0 = 1223 = F31
 # the flip of a record is no fault of its own | X_ERROR(1) 0 | M(0.5) 0 | X_ERROR(1) 0 = 0911 = M011
 X_ERROR(1) 0 1 | X 0 = 1001 = F11
@@ -295,7 +296,7 @@ fn passes_on_over_faults(rt: HostRuntime) {
     for row in PASSES_ON.lines() {
         assert!(rt; matches!(pass_on_holds(rt.alloc(), row), Ok(true)), "{row}");
     }
-    assert!(rt; PASSES_ON.lines().count() == 6);
+    assert!(rt; PASSES_ON.lines().count() == 7);
 }
 
 /// A measurement in three blocks of two turns inside 29 of one.
