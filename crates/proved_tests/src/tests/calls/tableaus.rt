@@ -90,7 +90,8 @@ fn may_replace_second_z(tableau: &Tableau<Global>, row: Option<usize>) -> bool {
     if tableau.len() != 2 || 2 <= row {
         return false;
     }
-    tableau.stabilizer_clashes(row, 0) == (false, false) && tableau.stabilizer_clashes(row, 1) == (false, true)
+    tableau.stabilizer_clashes(row, 0) == (false, false)
+        && tableau.stabilizer_clashes(row, 1) == (false, true)
 }
 
 /// X that is measured at the second of two qubits that are 0 is random, and decided from then on.
