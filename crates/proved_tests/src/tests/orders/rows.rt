@@ -343,7 +343,7 @@ coins 25
         output: "1001\n",
         times: 3_500,
         status: Status::Done,
-        spared: 81,
+        spared: 80,
     },
     Row {
         order: Order::Detect { shots: 1, seed: 6 },
