@@ -3,7 +3,7 @@ use Rattle.std.proofs.Common.{◌≡◌, ℕ, zero, suc, ◌+◌, ◌<◌, ◌�
 use Rattle.std.proofs.lemmas.List.{append-nil, drop_all, take_all}
 use Rattle.std.proofs.lemmas.List.Edits.{map_over_more}
 use Rattle.rand_pcg.specs.Lcg.{Lcg}
-use Rattle.forward_sim.specs.private.HalfDraws.{generator_at}
+use Rattle.forward_sim.specs.private.AllLanes.{generator_at}
 
 -- the next one is as it was
 ahead : (f : Lcg → Lcg) (xs : List Lcg) (i : ℕ) (d : Lcg) → i < length xs → get_or (map f (take i xs) ++ drop i xs) i d ≡ generator_at xs i

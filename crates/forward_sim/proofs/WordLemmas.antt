@@ -56,9 +56,15 @@ word_left g rng then k word step at =
     ap (λ (p : ℕ × Lcg). p.1) step ∙ (ap (next 128 multiplier_128) at ∙ after_words-more k g)
 
 -- the word, by the state that it was made in
-pub word_of_state : (g then : Lcg) (word state : ℕ) → (word, then) ≡ pcg64 g → state ≡ then.state → output_xsl_rr state ≡ word
-word_of_state g then word state step at =
-    ap output_xsl_rr (at ∙ ap (λ (p : ℕ × Lcg). p.1.state) step) ∙ sym (ap (λ (p : ℕ × Lcg). p.0) step)
+pub word_of_state_behind : (g here : Lcg) (n m k state : ℕ) → n + m ≡ k → here ≡ after_words n g → state ≡ (after_words (m + 1) here).state
+    → output_xsl_rr state ≡ word_at g k
+word_of_state_behind g here n m k state whole at is =
+    ap output_xsl_rr
+    (is
+    ∙ (ap (λ (r : Lcg). (after_words (m + 1) r).state) at
+    ∙ ap (λ (r : Lcg). r.state)
+    (sym (after_words-more m (after_words n g))
+    ∙ ap (next 128 multiplier_128) (sym (after_words-add n m g) ∙ ap (λ i. after_words i g) whole))))
 
 -- a list that is filled from its start
 pub filled_more : {X : Type 0} (f : ℕ → X) (xs : List X) (i : ℕ) (y : X) → i < length xs → y ≡ f i → take i xs ≡ map f (range_with_len 0 i) → take (i + 1) (set xs i y) ≡ map f (range_with_len 0 (i + 1))

@@ -5,7 +5,6 @@ pub mod Said
 pub mod SameRuns
 pub mod BoundRuns
 pub mod LaneDraws
-pub mod PairDraws
-pub mod HalfDraws
+pub mod AllLanes
 pub mod Sieves
 pub mod Quiet

@@ -1,72 +1,48 @@
-// A shot drawn into one lane of words.
-ghost use Rattle.std.specs.Prelude.{◌≡◌, ◌==◌, ◌||◌, ℕ, ◌+◌, ◌-◌, ◌<◌, ◌≤◌, if◌then◌else◌, length};
+// A lane of words, drawn by the next words of a generator.
+ghost use Rattle.std.specs.Prelude.{◌≡◌, ◌==◌, ◌||◌, ℕ, ◌+◌, ◌<◌, if◌then◌else◌, length};
+ghost use Rattle.rand_pcg.specs.Pcg.{output_xsl_rr};
 ghost use Rattle.bit_rows.specs.Lanes.{lane_bit};
-ghost use Rattle.forward_sim.specs.private.BoundRuns.{bounds_above, bounds_in, bounds_of_run};
-ghost use Rattle.forward_sim.specs.Drawn.{after_words};
-ghost use Rattle.forward_sim.specs.private.LaneDraws.{BoundsDrawn, DrawsInto, coin_hits, toss_hits};
+ghost use Rattle.forward_sim.specs.Drawn.{after_words, word_at};
+ghost use Rattle.forward_sim.specs.private.LaneDraws.{DrawsInto};
 
-use crate::fault_bounds::FaultBounds;
-use crate::runs::BoundRun;
-use crate::span::Span;
+use crate::copies::copy_of;
+use crate::word_draw::WordDraw;
 use bit_rows::lanes::with_bit;
-use rand_core::utils::NextWord;
 use rand_pcg::Pcg64;
-use std::alloc::Allocator;
 
-// A fault happens where its word is below its bound.
-pub(crate) fn draw_faults<A: Allocator + Copy>(
-    faults: &mut [u64],
-    bounds: &FaultBounds<A>,
-    lane: u32,
-    rng: &mut Pcg64,
-)
-    requires faults { length faults.old ≡ length bounds.now }
+/// Draws into a lane of all words. Two words are made in one turn of the loop, each by a step of its own from the same state, so
+/// that the second needn't wait for the first. Not inlined, so that the loop has the registers to itself.
+#[inline(never)]
+pub(crate) fn draw_lane<D: WordDraw>(words: &mut [u64], draw: &D, lane: u32, rng: &mut Pcg64)
+    requires fits { D.fits draw.now (length words.old) }
     requires lane { lane < 64 }
-    ensures { BoundsDrawn lane 0 bounds.now rng.old faults.old faults.new rng.new }
+    ensures drawn { DrawsInto lane 0 (length words.old)
+        (λ k. D.hits draw.now k (word_at rng.old k)) words.old words.new }
+    ensures taken { rng.new ≡ after_words (length words.old) rng.old }
 {
-    let start = draw_runs(faults, bounds.runs.as_slice(), lane, rng);
-    draw_each(faults, start, bounds.greatest.as_slice(), lane, rng);
+    let count = words.len();
+    // A copy stays in registers.
+    let mut here = copy_of(rng);
+    for pair in 0..count / 2 {
+        draw.draw_one(words, 2 * pair, lane, state_behind(&here, 1));
+        draw.draw_one(words, 2 * pair + 1, lane, state_behind(&here, 2));
+        here.advance(2);
+    }
+    if count % 2 == 1 {
+        draw.draw_one(words, count - 1, lane, state_behind(&here, 1));
+        here.advance(1);
+    }
+    *rng = here;
 }
 
-// The same for the faults of some runs, which are the first ones. Returns how many there are.
-fn draw_runs(faults: &mut [u64], runs: &[BoundRun], lane: u32, rng: &mut Pcg64) -> usize
-    requires faults { length (bounds_in runs.now) ≤ length faults.old }
-    requires lane { lane < 64 }
-    ensures count { result ≡ length (bounds_in runs.now) }
-    ensures drawn { BoundsDrawn lane 0 (bounds_in runs.now) rng.old faults.old faults.new rng.new }
+// The state after so many words, in which the last of them is made.
+#[inline(always)]
+fn state_behind(rng: &Pcg64, words: u128) -> u128
+    ensures { result ≡ (after_words words rng.now).state }
 {
-    let mut start = 0;
-    for r in 0..runs.len() {
-        let run = runs[r];
-        draw_run(faults, start, run, lane, rng);
-        start += run.count;
-    }
-    start
-}
-
-// The same for the faults of one run.
-fn draw_run(faults: &mut [u64], start: usize, run: BoundRun, lane: u32, rng: &mut Pcg64)
-    requires within { start + run.count ≤ length faults.old }
-    requires lane { lane < 64 }
-    ensures { BoundsDrawn lane start (bounds_of_run run) rng.old faults.old faults.new rng.new }
-{
-    for k in 0..run.count {
-        let word = u128::from(rng.next_word());
-        strike(faults, start + k, lane, word < run.bound);
-    }
-}
-
-// The same for faults each of which has a greatest word of its own, with which it happens.
-fn draw_each(faults: &mut [u64], start: usize, greatest: &[u64], lane: u32, rng: &mut Pcg64)
-    requires within { start + length greatest.now ≤ length faults.old }
-    requires lane { lane < 64 }
-    ensures { BoundsDrawn lane start (bounds_above greatest.now) rng.old faults.old faults.new
-        rng.new }
-{
-    for k in 0..greatest.len() {
-        let word = rng.next_word();
-        strike(faults, start + k, lane, word <= greatest[k]);
-    }
+    let mut then = copy_of(rng);
+    then.advance(words);
+    then.state()
 }
 
 // Most faults do not happen, so a word is written only where one does.
@@ -78,36 +54,6 @@ pub(crate) fn strike(faults: &mut [u64], f: usize, lane: u32, hit: bool)
 {
     if hit {
         faults[f] = with_bit(faults[f], lane);
-    }
-}
-
-/// The coins. The generator passes over the words of those of a span.
-pub(crate) fn draw_coins(coins: &mut [u64], passed: Span, lane: u32, rng: &mut Pcg64)
-    requires lane { lane < 64 }
-    requires order { passed.start ≤ passed.end }
-    requires within { passed.end ≤ length coins.old }
-    ensures drawn { DrawsInto lane 0 (length coins.old) (coin_hits passed rng.old)
-        coins.old coins.new }
-    ensures taken { rng.new ≡ after_words (length coins.old) rng.old }
-{
-    let end = coins.len();
-    toss_coins(coins, 0, passed.start, lane, rng);
-    rng.advance((passed.end - passed.start) as u128);
-    toss_coins(coins, passed.end, end, lane, rng);
-}
-
-// Those of some collapses. A coin is its word's lowest bit.
-fn toss_coins(coins: &mut [u64], start: usize, end: usize, lane: u32, rng: &mut Pcg64)
-    requires lane { lane < 64 }
-    requires order { start ≤ end }
-    requires within { end ≤ length coins.old }
-    ensures drawn { DrawsInto lane start end (λ c. toss_hits rng.old (c - start))
-        coins.old coins.new }
-    ensures taken { rng.new ≡ after_words (end - start) rng.old }
-{
-    for c in start..end {
-        let coin = rng.next_word() % 2 == 1;
-        toss(coins, c, lane, coin);
     }
 }
 

@@ -3,13 +3,15 @@
 //! lists of coins and of fault numbers that a user gives.
 #![tactic(auto)]
 
+mod all_lanes;
+mod coin_draws;
 mod copies;
 mod difference;
 mod drawing;
 mod fault_bounds;
+mod fault_draws;
 mod following;
 mod forward;
-mod half_draws;
 mod keeping;
 mod kept_words;
 mod lane_draws;
@@ -18,8 +20,6 @@ mod letters;
 mod listed;
 mod lists;
 mod machine;
-mod pair_draw;
-mod pair_draws;
 mod pcg_words;
 mod products;
 mod quiet;
@@ -32,9 +32,9 @@ mod side_draws;
 mod sieve;
 mod span;
 mod steps;
-mod striker;
 mod values;
 mod walking;
+mod word_draw;
 mod word_table;
 mod words;
 

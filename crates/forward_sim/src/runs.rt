@@ -7,7 +7,7 @@ use programs::{Program, Walk, next_fault};
 use std::alloc::{AllocError, Allocator};
 
 // A run of so many faults is drawn into all lanes before the next one is. So many words stay in the first-level cache.
-const LONGEST: usize = 4096;
+pub(crate) const LONGEST: usize = 4096;
 
 /// Faults one after another that have one bound.
 #[derive(Clone, Copy)]

@@ -1,12 +1,13 @@
 // Faults that seldom happen, struck without making most of the words.
-ghost use Rattle.std.specs.Prelude.{◌+◌, ◌<◌, ◌↔◌, nat_le, length, IsTrue};
+ghost use Rattle.std.specs.Prelude.{◌+◌, ◌<◌, ◌≤◌, ◌↔◌, ◌^◌, nat_lt, length, IsTrue};
 ghost use Rattle.rand_pcg.specs.Pcg.{output_xsl_rr};
+ghost use Rattle.forward_sim.specs.private.BoundRuns.{IsGreatestBelow};
 ghost use Rattle.forward_sim.specs.private.LaneDraws.{DrawsInto};
 ghost use Rattle.forward_sim.specs.private.Sieves.{LetsSmallPass, Passes};
 
 use crate::lane_draws::strike;
 use crate::pcg_words::{unrotated, word_of};
-use crate::striker::Striker;
+use crate::word_draw::{EqualDraw, WordDraw};
 
 // The nine highest bits. A word below 2^55 has none of them. With fewer of them more branches are mispredicted than it saves.
 const HIGHEST: u64 = 0xff80_0000_0000_0000;
@@ -37,15 +38,25 @@ impl Sieve {
     }
 }
 
-impl Striker for Sieve {
-    ghost use Rattle.std.specs.Prelude.{◌<◌, ◌^◌};
+/// Faults of one bound, which is 2^55 at most.
+#[derive(Clone, Copy)]
+pub(crate) struct SievedDraw<'a> {
+    pub(crate) equal: EqualDraw,
+    pub(crate) sieve: &'a Sieve,
+    ghost seldom: { equal.bound ≤ 2 ^ 55 },
+}
 
-    ghost serves = { λ sieve most. most < 2 ^ 55 };
+impl<'a> WordDraw for SievedDraw<'a> {
+    ghost use Rattle.std.specs.Prelude.{⊤, nat_lt};
+
+    ghost fits = { λ draw room. ⊤ };
+
+    ghost hits = { λ draw k word. nat_lt word draw.equal.bound };
 
     #[inline(always)]
-    fn strike_up_to(&self, faults: &mut [u64], f: usize, lane: u32, most: u64, state: u128) {
-        if self.passes(state) {
-            strike_by_word(faults, f, lane, most, state);
+    fn draw_one(&self, words: &mut [u64], k: usize, lane: u32, state: u128) {
+        if self.sieve.passes(state) {
+            strike_by_word(words, k, lane, self.equal, state);
         }
     }
 }
@@ -53,11 +64,11 @@ impl Striker for Sieve {
 // Not inlined: inside a loop it costs registers, though it is seldom called.
 #[cold]
 #[inline(never)]
-fn strike_by_word(faults: &mut [u64], f: usize, lane: u32, most: u64, state: u128)
+fn strike_by_word(faults: &mut [u64], f: usize, lane: u32, equal: EqualDraw, state: u128)
     requires within { f < length faults.old }
     requires lane { lane < 64 }
-    ensures { DrawsInto lane f (f + 1) (λ _. nat_le (output_xsl_rr state) most) faults.old
+    ensures { DrawsInto lane f (f + 1) (λ _. nat_lt (output_xsl_rr state) equal.bound) faults.old
         faults.new }
 {
-    strike(faults, f, lane, word_of(state) <= most);
+    equal.draw_one(faults, f, lane, state);
 }

@@ -1,54 +1,48 @@
--- An odd shot goes into the last lane.
-use Rattle.std.proofs.Common.{◌≡◌, ◌+◌, ◌*◌, ◌/◌, ◌%◌, length, sym, ap, ap₂, subst, ◌∙◌, arith}
-use Rattle.std.specs.Prelude.{ℕ, ◌-◌}
-use Rattle.forward_sim.specs.Drawn.{after_words, after_shots}
-use Rattle.forward_sim.specs.private.LaneDraws.{DrawsInto, coin_hits, fault_hits}
-use Rattle.forward_sim.specs.Shots.{AreDrawn}
-use Rattle.forward_sim.proofs.BoundHits.{drawn_from_first}
-use Rattle.forward_sim.proofs.SideLemmas.{one_more_drawn, one_more_taken}
+-- Each lane has the faults and the coins of its shot.
+use Rattle.std.proofs.Common.{◌≡◌, ℕ, ◌+◌, ◌*◌, ◌<◌, length, ap, ap₂, ◌∙◌, arith}
+use Rattle.rand_pcg.specs.Lcg.{Lcg}
+use Rattle.forward_sim.specs.Drawn.{after_shots, after_words, word_at}
+use Rattle.forward_sim.specs.private.AllLanes.{coin_hits, fault_hits, generator_at}
+use Rattle.forward_sim.proofs.AllLaneLemmas.{generator_after, generators_count, lane_idle, lane_is}
 use Rattle.forward_sim.proofs.side_draws.draw_lanes.Goals as goal
 
-odd_is : (count : ℕ) → count % 2 ≡ 1 → count - 1 ≡ 2 * (count / 2)
-odd_is count odd = omega arith
-
-odd_more : (count : ℕ) → count % 2 ≡ 1 → count - 1 + 1 ≡ count
-odd_more count odd = omega arith
-
-pub returns-then-count-eq1-clause-drawn : goal.returns-then-count-eq1-clause-drawn
-returns-then-count-eq1-clause-drawn g c =
+pub returns-clause-drawn : goal.returns-clause-drawn
+returns-clause-drawn g c =
     let bounds = c.args.bounds.now in
     let n = length bounds in
     let collapses = length c.args.coins.now in
     let from = c.args.rng.now in
-    let k = c.args.count - 1 in
-    let half : length c.split_at_mut-firsts.result.0.now ≡ c.args.count / 2 = c.split_at_mut-firsts.ensures.front_len in
-    let pairs : k ≡ 2 * length c.split_at_mut-firsts.result.0.now = odd_is c.args.count c.if-count-eq1.true ∙ ap (λ h. 2 * h) (sym half) in
-    let whole : k + 1 ≡ c.args.count = odd_more c.args.count c.if-count-eq1.true in
-    let so_far : AreDrawn c.args.passed bounds collapses k from c.draw_halves.new.faults c.draw_halves.new.coins =
-    subst (λ m. AreDrawn c.args.passed bounds collapses m from c.draw_halves.new.faults c.draw_halves.new.coins) (sym pairs) c.draw_halves.ensures.drawn in
-    let at = c.draw_halves.ensures.taken ∙ ap (λ m. after_shots n collapses m from) (sym pairs) in
-    let drawn = c.draw_faults.ensures in
-    let tossed_from = drawn.taken ∙ ap (after_words n) at in
-    let faults =
-    subst (λ r. DrawsInto k 0 n (fault_hits bounds r) c.draw_halves.new.faults c.draw_faults.new.faults) at
-    (drawn_from_first k bounds c.draw_halves.new.rng c.draw_faults.new.rng c.draw_halves.new.faults c.draw_faults.new.faults drawn) in
-    let coins =
-    subst (λ m. DrawsInto k 0 m (coin_hits c.args.passed (after_words n (after_shots n collapses k from))) c.draw_halves.new.coins c.draw_coins.new.coins) so_far.coin_count
-    (subst (λ r. DrawsInto k 0 (length c.draw_halves.new.coins) (coin_hits c.args.passed r) c.draw_halves.new.coins c.draw_coins.new.coins) tossed_from c.draw_coins.ensures.drawn) in
-    subst (λ m. AreDrawn c.args.passed bounds collapses m from c.draw_faults.new.faults c.draw_coins.new.coins) whole
-    (one_more_drawn c.args.passed bounds collapses k from c.draw_halves.new.faults c.draw_faults.new.faults c.draw_halves.new.coins c.draw_coins.new.coins
-    (omega (arith, c.requires.count)) so_far faults coins)
+    let count = c.args.count in
+    let lanes = c.split_at_mut-lanes.result.0.now in
+    let apart = c.set_apart.new.generators in
+    let faults = c.draw_faults.ensures in
+    let coins = c.draw_coins.ensures in
+    let many : length lanes ≡ count = c.split_at_mut-lanes.ensures.front_len in
+    let apart_many : length apart ≡ count = c.set_apart.ensures.size ∙ many in
+    let then = c.draw_faults.new.generators in
+    let then_many : length then ≡ count = generators_count n apart then faults.taken ∙ apart_many in
+    let words : length c.args.faults.now + collapses ≡ n + collapses = ap (λ m. m + collapses) c.requires.room.faults_fit in
+    let start : ℕ → Lcg = λ j. after_shots n collapses j from in
+    let starts : (j : ℕ) → j < count → generator_at apart j ≡ start j =
+    λ j h. c.set_apart.ensures.each j (omega (arith, h, many)) ∙ ap (λ w. after_words (j * w) from) words in
+    let starts_then : (j : ℕ) → j < count → generator_at then j ≡ after_words n (start j) =
+    λ j h. generator_after n j apart then (omega (arith, h, apart_many)) faults.taken ∙ ap (after_words n) (starts j h) in
+    record {
+      fault_count = faults.size;
+      coin_count = coins.size;
+      faults = λ j h.
+          lane_is j n (λ k. fault_hits bounds k (word_at (start j) k)) c.draw_faults.new.faults faults.size
+          (λ k l. faults.lanes.drawn j k (omega (arith, h, apart_many)) l ∙ ap (λ r. fault_hits bounds k (word_at r k)) (starts j h));
+      coins = λ j h.
+          lane_is j collapses (λ k. coin_hits c.args.passed k (word_at (after_words n (start j)) k)) c.draw_coins.new.coins coins.size
+          (λ k l. coins.lanes.drawn j k (omega (arith, h, then_many)) l ∙ ap (λ r. coin_hits c.args.passed k (word_at r k)) (starts_then j h));
+      idle_faults = λ j h l. lane_idle j n c.draw_faults.new.faults faults.size (λ k m. faults.lanes.idle j k (omega (arith, h, apart_many)) m);
+      idle_coins = λ j h l. lane_idle j collapses c.draw_coins.new.coins coins.size (λ k m. coins.lanes.idle j k (omega (arith, h, then_many)) m);
+    }
 
-pub returns-then-count-eq1-clause-taken : goal.returns-then-count-eq1-clause-taken
-returns-then-count-eq1-clause-taken g c =
-    let n = length c.args.bounds.now in
+pub returns-clause-taken : goal.returns-clause-taken
+returns-clause-taken g c =
     let collapses = length c.args.coins.now in
     let from = c.args.rng.now in
-    let k = c.args.count - 1 in
-    let half : length c.split_at_mut-firsts.result.0.now ≡ c.args.count / 2 = c.split_at_mut-firsts.ensures.front_len in
-    let pairs : k ≡ 2 * length c.split_at_mut-firsts.result.0.now = odd_is c.args.count c.if-count-eq1.true ∙ ap (λ h. 2 * h) (sym half) in
-    let whole : k + 1 ≡ c.args.count = odd_more c.args.count c.if-count-eq1.true in
-    let at = c.draw_halves.ensures.taken ∙ ap (λ m. after_shots n collapses m from) (sym pairs) in
-    c.draw_coins.ensures.taken
-    ∙ (ap₂ after_words c.draw_halves.ensures.drawn.coin_count (c.draw_faults.ensures.taken ∙ ap (after_words n) at)
-    ∙ (one_more_taken n collapses k from ∙ ap (λ m. after_shots n collapses m from) whole))
+    c.set_apart.ensures.taken
+    ∙ ap₂ (λ m w. after_words (m * w) from) c.split_at_mut-lanes.ensures.front_len (ap (λ m. m + collapses) c.requires.room.faults_fit)

@@ -2,7 +2,7 @@
 use Rattle.std.proofs.Common.{◌≡◌, ◌+◌, ◌*◌, ◌<◌, length, set, get_or-set_same, get_or-set_other, sym, ap, subst, ◌∙◌, arith, ⊎_elim}
 use Rattle.std.proofs.lemmas.Bool.{cases_eq}
 use Rattle.forward_sim.specs.Drawn.{after_words}
-use Rattle.forward_sim.specs.private.HalfDraws.{generator_at, nobody}
+use Rattle.forward_sim.specs.private.AllLanes.{generator_at, nobody}
 use Rattle.forward_sim.proofs.WordLemmas.{after_words-none, after_words-add}
 use Rattle.forward_sim.proofs.side_draws.set_apart.Goals as goal
 

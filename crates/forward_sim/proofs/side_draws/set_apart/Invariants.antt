@@ -1,6 +1,6 @@
 use Rattle.std.proofs.Common.{◌≡◌, ◌*◌, ◌<◌, ℕ}
 use Rattle.forward_sim.specs.Drawn.{after_words}
-use Rattle.forward_sim.specs.private.HalfDraws.{generator_at}
+use Rattle.forward_sim.specs.private.AllLanes.{generator_at}
 use Rattle.forward_sim.proofs.side_draws.set_apart.Given as goal
 
 -- the first generators are those of the first shots
