@@ -42,25 +42,6 @@ run_counts runs r none within =
     ∙ (length-append (bounds_in (take r runs)) (bounds_of_run run)
     ∙ ap (λ n. bounds_before runs r + n) (length-replicate run.count run.bound))
 
--- the bounds above one word more
-pub above_more : (words : List ℕ) (k : ℕ) → k < length words → take k (bounds_above words) ++ (get_or words k 0 + 1) ∷ [] ≡ take (k + 1) (bounds_above words)
-above_more words k within =
-    ap (λ b. take k (bounds_above words) ++ b ∷ []) (sym (get_or-map (λ w. w + 1) words k 0 0 within))
-    ∙ sym (take_more (bounds_above words) k 0 (omega (arith, within, length-map words (λ w. w + 1))))
-
-pub above_count : (words : List ℕ) (k : ℕ) → k ≤ length words → length (take k (bounds_above words)) ≡ k
-above_count words k within =
-    omega (arith, within, length-take k (bounds_above words), length-map words (λ w. w + 1))
-
-pub above_all : (words : List ℕ) (k : ℕ) → length words ≤ k → take k (bounds_above words) ≡ bounds_above words
-above_all words k over = take_all k (bounds_above words) (omega (arith, over, length-map words (λ w. w + 1)))
-
--- the next number below which a word is the greatest
-pub next_above : (most : ℕ) → IsGreatestBelow (most + 1) most
-next_above most word fits =
-    let next : suc most ≡ most + 1 = omega arith in
-    sym (leb-suc-suc word most) ∙ ap (nat_lt word) next
-
 -- a run with one fault more
 pub count_one : (bounds : List ℕ) (run : BoundRun) (bound : ℕ) → bound ≡ run.bound
     → bounds ++ replicate (run.count + 1) run.bound ≡ (bounds ++ bounds_of_run run) ++ bound ∷ []
@@ -87,19 +68,6 @@ word_behind g rng start k low e =
     ap (λ r. (pcg64 (after_words (k - start) r)).0) e
     ∙ (ap (λ r. (pcg64 r).0) (sym (after_words-add start (k - start) g))
     ∙ ap (word_at g) whole)
-
-pub words_behind : (g rng : Lcg) (start end : ℕ) → start ≤ end → rng ≡ after_words start g → after_words (end - start) rng ≡ after_words end g
-words_behind g rng start end low e =
-    let whole : start + (end - start) ≡ end = omega arith in
-    ap (after_words (end - start)) e
-    ∙ (sym (after_words-add start (end - start) g)
-    ∙ ap (λ n. after_words n g) whole)
-
--- the same, where a generator passes over the words behind the first ones
-pub words_passed : (g rng then : Lcg) (start end : ℕ) → start ≤ end → rng ≡ after_words (start - 0) g → then ≡ after_words (end - start) rng → then ≡ after_words end g
-words_passed g rng then start end low e step =
-    let none : start - 0 ≡ start = omega arith in
-    step ∙ words_behind g rng start end low (e ∙ ap (λ n. after_words n g) none)
 
 -- no word is below 0
 pub none_below : (word bound : ℕ) → bound ≡ 0 → nat_lt word bound ≡ false
