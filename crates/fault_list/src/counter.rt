@@ -1,33 +1,34 @@
 //! The digits of numbers that mostly count up.
 ghost use Rattle.std.specs.Prelude.{◌≡◌, ◌≤◌, ◌+◌, ◌++◌, decimal, length, take};
-ghost use Rattle.fault_list.specs.private.KeptTexts.{HasDigits};
+ghost use Rattle.fault_list.specs.private.KeptTexts.{HasDigits, IsCounted};
 
-use crate::put::put_first;
+use crate::put::{put_byte, put_first};
 use itoa::write_digits;
 
 /// How many bytes are kept for the digits. A number of 32 bits has fewer; so many are copied at once.
 pub(crate) const DIGITS: usize = 16;
 
-/// The digits of a number, kept for the next one: mostly that is one more, and only its last digit or two change. They are
-/// changed as soon as they were put, since bytes that were just written are slow to copy.
+/// The digits of a number, kept for the next one: mostly that is one more, and only its last digit changes. So that stands apart: a
+/// copy of bytes of which one was just written makes the processor wait.
 #[derive(Drop)]
 pub(crate) struct Counter {
     number: u64,
+    // those before the last one, and how many they are
     digits: [u8; DIGITS],
-    len: usize,
-    ghost written: { HasDigits number len digits },
+    before: usize,
+    last: u8,
+    ghost counted: { IsCounted number before last digits },
 }
 
 impl Counter {
     pub(crate) fn new() -> Self
         ensures { result.number ≡ 0 }
     {
-        let mut digits = [0; DIGITS];
-        digits[0] = b'0';
         Counter {
             number: 0,
-            digits,
-            len: 1,
+            digits: [0; DIGITS],
+            before: 0,
+            last: b'0',
         }
     }
 
@@ -40,7 +41,8 @@ impl Counter {
         ensures written { take result buffer.new ≡ take at buffer.old ++ decimal number }
     {
         self.turn_to(number);
-        let end = put_first(buffer, at, self.digits, self.len);
+        let end = put_first(buffer, at, self.digits, self.before);
+        let end = put_byte(buffer, end, self.last);
         self.count_up();
         end
     }
@@ -61,7 +63,8 @@ impl Counter {
         let (digits, len) = digits_of(number);
         self.number = number as u64;
         self.digits = digits;
-        self.len = len;
+        self.before = len - 1;
+        self.last = digits[len - 1];
     }
 
     // Turns to the next number, where its digits are found easily.
@@ -69,14 +72,13 @@ impl Counter {
     fn count_up(&mut self)
         requires { self.old.number ≤ u32.MAX }
     {
-        let last = self.len - 1;
-        if self.digits[last] < b'9' {
+        if self.last < b'9' {
             self.number += 1;
-            self.digits[last] += 1;
-        } else if last > 0 && self.digits[last - 1] < b'9' {
+            self.last += 1;
+        } else if self.before > 0 && self.digits[self.before - 1] < b'9' {
             self.number += 1;
-            self.digits[last - 1] += 1;
-            self.digits[last] = b'0';
+            self.digits[self.before - 1] += 1;
+            self.last = b'0';
         }
     }
 }

@@ -1,5 +1,5 @@
 -- Texts that are kept at the start of a fixed number of bytes. (This project's own.)
-use Rattle.std.specs.Prelude.{◌≡◌, ◌<◌, ◌≤◌, ℕ, List, ◌++◌, codes, decimal, length, take}
+use Rattle.std.specs.Prelude.{◌≡◌, ◌<◌, ◌≤◌, ℕ, List, [], ◌∷◌, ◌++◌, codes, decimal, length, take}
 use Rattle.step_model.specs.declared.chances.ChanceText.{ChanceText}
 use Rattle.step_model.specs.Chances.{chance_at}
 
@@ -8,6 +8,11 @@ pub record HasDigits (number len : ℕ) (bytes : List ℕ) : Type 0 where
   pub some : 0 < len
   pub within : len ≤ 10
   pub digits : take len bytes ≡ decimal number
+
+-- the first bytes, and then the last digit, are the digits of a number
+pub record IsCounted (number before last : ℕ) (bytes : List ℕ) : Type 0 where
+  pub within : before ≤ 9
+  pub digits : take before bytes ++ last ∷ [] ≡ decimal number
 
 -- what stands between the number of a fault and what it does: a probability's text after a space and before one
 abbrev pub probability_text : List ℕ → List ℕ
