@@ -1,15 +1,14 @@
 -- Runs of equal bounds, one after another.
 use Rattle.std.proofs.Common.{◌≡◌, ℕ, ◌+◌, ◌-◌, ◌<◌, ◌≤◌, false, List, [], ◌∷◌, ◌++◌, length, get_or, take, replicate, sym, ap, ◌∙◌, arith, length-append, append_assoc}
 use Rattle.std.proofs.lemmas.Bool.{le-ltb}
-use Rattle.std.proofs.Math.Dec.{leb-suc-suc}
-use Rattle.std.specs.Prelude.{suc, nat_lt}
-use Rattle.std.proofs.lemmas.List.{take_all, take_more, length-map, length-take, length-replicate, get_or-map, replicate_more, append-nil}
+use Rattle.std.specs.Prelude.{nat_lt}
+use Rattle.std.proofs.lemmas.List.{take_more, length-take, length-replicate, replicate_more, append-nil}
 use Rattle.std.proofs.lemmas.List.Folds.{length-flat_map-take}
 use Rattle.std.proofs.lemmas.Grind.{flat_map-append}
 use Rattle.rand_pcg.specs.Lcg.{Lcg}
 use Rattle.rand_pcg.specs.Pcg.{pcg64}
 use Rattle.forward_sim.specs.declared.runs.BoundRun.{BoundRun}
-use Rattle.forward_sim.specs.private.BoundRuns.{IsGreatestBelow, bounds_above, bounds_in, bounds_of_run}
+use Rattle.forward_sim.specs.private.BoundRuns.{bounds_in, bounds_of_run}
 use Rattle.forward_sim.specs.Drawn.{after_words, word_at}
 use Rattle.forward_sim.proofs.WordLemmas.{after_words-add}
 

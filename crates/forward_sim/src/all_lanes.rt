@@ -7,7 +7,11 @@ use crate::word_draw::WordDraw;
 use rand_pcg::Pcg64;
 
 /// Makes the words those that the generators draw, and 0 in lanes that have none.
-pub(crate) fn draw_into_all<D: WordDraw>(words: &mut [u64], draw: &D, generators: &mut [Pcg64])
+pub(crate) fn draw_into_all<D: WordDraw + Copy>(
+    words: &mut [u64],
+    draw: &D,
+    generators: &mut [Pcg64],
+)
     requires fits { D.fits draw.now (length words.old) }
     requires few { length generators.old ≤ 64 }
     ensures { AllDrawn (length words.old) (D.hits draw.now) generators.old words.new

@@ -13,7 +13,7 @@ use rand_pcg::Pcg64;
 /// Draws into a lane of all words. Two words are made in one turn of the loop, each by a step of its own from the same state, so
 /// that the second needn't wait for the first. Not inlined, so that the loop has the registers to itself.
 #[inline(never)]
-pub(crate) fn draw_lane<D: WordDraw>(words: &mut [u64], draw: &D, lane: u32, rng: &mut Pcg64)
+pub(crate) fn draw_lane<D: WordDraw + Copy>(words: &mut [u64], draw: &D, lane: u32, rng: &mut Pcg64)
     requires fits { D.fits draw.now (length words.old) }
     requires lane { lane < 64 }
     ensures drawn { DrawsInto lane 0 (length words.old)
@@ -21,7 +21,8 @@ pub(crate) fn draw_lane<D: WordDraw>(words: &mut [u64], draw: &D, lane: u32, rng
     ensures taken { rng.new ≡ after_words (length words.old) rng.old }
 {
     let count = words.len();
-    // A copy stays in registers.
+    // Copies stay in registers.
+    let draw = *draw;
     let mut here = copy_of(rng);
     for pair in 0..count / 2 {
         draw.draw_one(words, 2 * pair, lane, state_behind(&here, 1));
