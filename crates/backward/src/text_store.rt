@@ -126,7 +126,7 @@ impl<'p, 'a, A: Allocator + Copy> TextStore<'p, 'a, A> {
         ensures named { text_at self.now.text.texts result
             ≡ (kept_at self.now.program.now entry).text }
     {
-        let chance = self.chances.numbers[entry as usize];
+        let chance = self.chances.numbers[entry as usize] as usize;
         self.numbers[chance]
     }
 

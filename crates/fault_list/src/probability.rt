@@ -59,7 +59,7 @@ impl<'t, 'a> Probability<'t, 'a> {
             (chance_at self.old.parts.now (slice_index_or self.old.numbers.now entry 0)).text)
             buffer.old buffer.new result }
     {
-        let part = self.table.numbers[entry as usize];
+        let part = self.table.numbers[entry as usize] as usize;
         if part == self.part {
             return Some(put_first(buffer, at, self.text, self.len));
         }

@@ -11,7 +11,7 @@ use step_model::{ChanceText, Term};
 /// For each entry the number of its part; and the parts, texts with their bounds. The same part may stand there twice.
 #[derive(Clone, Copy, Drop)]
 pub struct ChanceTable<'t, 'a> {
-    pub numbers: &'t [usize],
+    pub numbers: &'t [u32],
     pub parts: &'t [ChanceText<'a>],
 }
 
@@ -19,7 +19,7 @@ pub struct ChanceTable<'t, 'a> {
 /// different probabilities, so an entry keeps the number of its text and bound.
 pub struct Entries<'a, A: Allocator + Copy> {
     parts: Vec<ChanceText<'a>, A>,
-    numbers: Vec<usize, A>,
+    numbers: Vec<u32, A>,
     terms: FlatLists<Term, A>,
 }
 
@@ -53,7 +53,7 @@ impl<'a, A: Allocator + Copy> Entries<'a, A> {
     /// The entries with parts of these numbers and with these letters.
     pub(crate) fn new(
         parts: Vec<ChanceText<'a>, A>,
-        numbers: Vec<usize, A>,
+        numbers: Vec<u32, A>,
         terms: FlatLists<Term, A>,
     ) -> Self
         requires { IsNumbered parts.items numbers.items terms }
@@ -114,6 +114,6 @@ impl<'a, A: Allocator + Copy> Entries<'a, A> {
         ensures text { result.text.now ≡ (slice_index_or self.now e none_kept).text }
         ensures bound { result.bound ≡ (slice_index_or self.now e none_kept).bound }
     {
-        self.parts[self.numbers[e]]
+        self.parts[self.numbers[e] as usize]
     }
 }

@@ -4,6 +4,7 @@ ghost use Rattle.step_model.specs.Chances.{chance_of};
 ghost use Rattle.programs.specs.Entries.{with_entry, Names};
 
 use crate::entries::Entries;
+use crate::number::short_number;
 use flat_lists::FlatLists;
 use pauli_word::Letter;
 use std::alloc::{AllocError, Allocator};
@@ -22,7 +23,7 @@ const FLIPS: usize = 0;
 /// Entries as they are gathered, whose probabilities are among texts that are given first.
 pub struct EntryBuilder<'a, A: Allocator + Copy> {
     texts: Vec<ChanceText<'a>, A>,
-    numbers: Vec<usize, A>,
+    numbers: Vec<u32, A>,
     terms: FlatLists<Term, A>,
     // The last entry of each place. It is compared with what is kept before it is answered, so nothing rests on it.
     last: Vec<u32, A>,
@@ -76,12 +77,15 @@ impl<'a, A: Allocator + Copy> EntryBuilder<'a, A> {
         self.numbers.len()
     }
 
-    /// Appends an entry, of the probability with a number. It fails only where memory runs out.
+    /// Appends an entry, of the probability with a number. It fails only where memory runs out, or where that number is
+    /// 2^32 or more.
     pub fn push(&mut self, number: usize, terms: &[Term]) -> Result<(), AllocError>
         requires { number < length self.old.chances }
         ensures ok { OnOk result (self.new ≡ with_entry number terms.now self.old) }
         ensures err { OnErr result (self.new ≡ self.old) }
     {
+        let number = short_number(number)?;
+
         // Room for the number first, so that nothing changes where memory runs out.
         self.numbers.reserve(1)?;
         self.terms.push(terms)?;
@@ -158,7 +162,7 @@ impl<'a, A: Allocator + Copy> EntryBuilder<'a, A> {
     {
         let e = entry as usize;
         if e < self.numbers.len() {
-            self.numbers[e] == number && self.terms.get(e) == terms
+            self.numbers[e] as usize == number && self.terms.get(e) == terms
         } else {
             false
         }

@@ -8,6 +8,7 @@ mod fault_walk;
 mod kept_node;
 mod node;
 mod nodes;
+mod number;
 mod place;
 mod program;
 mod step;

@@ -1,5 +1,5 @@
 //! The nodes of a circuit, each kept in few bytes.
-ghost use Rattle.std.specs.Prelude.{◌≡◌, ◌<◌, ◌≤◌, ◌^◌, [], ◌∷◌, ◌++◌, length, set, take, true, false, IfOk, OnOk, OnErr, IfSome, None, Some, slice_get};
+ghost use Rattle.std.specs.Prelude.{◌≡◌, ◌<◌, ◌≤◌, ◌^◌, [], ◌∷◌, ◌++◌, length, set, take, true, false, OnOk, OnErr, IfSome, None, Some, slice_get};
 ghost use Rattle.programs.specs.declared.node.Node.TheVariants.{Do, Open, Close};
 ghost use Rattle.programs.specs.declared.step.TextStep.TheVariants.{Fault};
 ghost use Rattle.programs.specs.Steps.{is_step, is_fault_node};
@@ -9,6 +9,7 @@ use crate::kept_node::{
     BlockSize, KeptNode, fault_of, is_fault, is_step, kept_step, node_of, step_of,
 };
 use crate::node::Node;
+use crate::number::short_number;
 use crate::step::TextStep;
 use std::alloc::{AllocError, Allocator};
 use std::marker::Model;
@@ -166,7 +167,7 @@ impl<A: Allocator + Copy> Nodes<A> {
             ∷ []) }
         ensures err { OnErr result (self.new ≡ self.old) }
     {
-        let block = number_of(self.sizes.len())?;
+        let block = short_number(self.sizes.len())?;
 
         // Room for the end first, so that nothing changes where memory runs out.
         self.kept.reserve(1)?;
@@ -182,14 +183,4 @@ impl<A: Allocator + Copy> Nodes<A> {
     {
         self.kept.truncate(count);
     }
-}
-
-// The number of a block that comes after so many. Blocks without a number would take more memory than there is.
-fn number_of(blocks: usize) -> Result<u32, AllocError>
-    ensures { IfOk result (λ number. number ≡ blocks) }
-{
-    if blocks > u32::MAX as usize {
-        return Err(AllocError);
-    }
-    Ok(blocks as u32)
 }

@@ -1,6 +1,7 @@
 pub mod ScanLemmas
 mod LexingLemmas
 mod Nowhere
+mod PlainLemmas
 mod SpecialLemmas
 pub mod TreeLemmas
 pub mod TextLemmas

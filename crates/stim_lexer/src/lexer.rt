@@ -3,10 +3,10 @@ ghost use Rattle.std.specs.List.{list_any};
 ghost use Rattle.stim_lexer.specs.Bytes.{after_blanks};
 ghost use Rattle.stim_lexer.specs.Lexing.{after_silent, next_found, after_next, answered};
 ghost use Rattle.stim_lexer.specs.Lines.{content_of, lines_of};
-ghost use Rattle.stim_lexer.specs.private.Special.{is_special};
+ghost use Rattle.stim_lexer.specs.private.Special.{is_special, IsPlain};
 
 use crate::line::{Line, Scanned, content_of, has_bad_byte, is_closing, line_of, parts_of};
-use crate::scan::{after_blanks, any_special, first_line};
+use crate::scan::{after_blanks, first_line, judge_line};
 use std::marker::Model;
 use step_model::{Cause, Fault};
 
@@ -15,6 +15,8 @@ use step_model::{Cause, Fault};
 pub struct Lexer<'a> {
     rest: &'a [u8],
     read: u64,
+    // How many bytes in front of the rest are known to be plain.
+    plain: usize,
 }
 
 /// A line that says something, its content up to a comment, and what follows it in the text.
@@ -23,18 +25,21 @@ struct Found<'a> {
     scanned: Scanned<'a>,
     content: &'a [u8],
     after: &'a [u8],
+    // How many bytes in front of that are known to be plain.
+    plain: usize,
 }
 
 impl<'a> Model for Lexer<'a> {
     ghost use Rattle.std.specs.Prelude.{◌+◌, ◌<◌, ◌^◌, length};
     ghost use Rattle.stim_lexer.specs.Lexing.{Unread};
     ghost use Rattle.stim_lexer.specs.Lines.{lines_of};
+    ghost use Rattle.stim_lexer.specs.private.Special.{IsPlain};
 
     ghost Value = { Unread };
 
     ghost view = { λ l. record { read = l.read; lines = lines_of l.rest.now } };
 
-    ghost invariant = { λ l. l.read + length l.rest.now < 2 ^ 64 };
+    ghost invariant = { λ l. (l.read + length l.rest.now < 2 ^ 64) × IsPlain l.plain l.rest.now };
 }
 
 impl<'a> Lexer<'a> {
@@ -45,6 +50,7 @@ impl<'a> Lexer<'a> {
         Lexer {
             rest: text,
             read: 0,
+            plain: 0,
         }
     }
 
@@ -68,6 +74,7 @@ impl<'a> Lexer<'a> {
             });
         }
         self.rest = found.after;
+        self.plain = found.plain;
         self.read = number;
         let closes = is_closing(found.content);
         Ok(Some(line_of(number, line, closes, parts)))
@@ -86,14 +93,16 @@ impl<'a> Lexer<'a> {
             ≡ list_any is_special found.scanned.line.now) }
         ensures room { IfSome result (λ found. self.new.read + 1 + length found.after.now
             < 2 ^ 64) }
+        ensures plain { IfSome result (λ found. IsPlain found.plain found.after.now) }
         ensures none { result ≡ None → self.new.lines ≡ [] }
     {
         while !self.rest.is_empty() {
             let (line, after) = first_line(self.rest);
+            let (special, plain) = judge_line(self.plain, self.rest, line, after);
             let scanned = Scanned {
                 line,
                 start: after_blanks(line),
-                special: any_special(line),
+                special,
             };
             let content = content_of(scanned);
             if !content.is_empty() {
@@ -101,9 +110,11 @@ impl<'a> Lexer<'a> {
                     scanned,
                     content,
                     after,
+                    plain,
                 });
             }
             self.rest = after;
+            self.plain = plain;
             self.read += 1;
         }
         None

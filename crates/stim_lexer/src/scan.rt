@@ -1,9 +1,9 @@
-ghost use Rattle.std.specs.Prelude.{◌≡◌, ◌+◌, ◌<◌, ◌==◌, length, not, position, true, false};
+ghost use Rattle.std.specs.Prelude.{◌≡◌, ◌+◌, ◌<◌, ◌≤◌, ◌==◌, length, not, position, true, false};
 ghost use Rattle.std.specs.List.{list_any, list_all, before_first, after_first, position_or_len};
 ghost use Rattle.stim_lexer.specs.Bytes.{is_blank, is_bad_byte, is_brace, ends_name, from_first, after_blanks};
 ghost use Rattle.stim_lexer.specs.Cut.{in_brackets, after_brackets, leaves_open};
 ghost use Rattle.stim_lexer.specs.FirstLines.{IsFirstLine};
-ghost use Rattle.stim_lexer.specs.private.Special.{is_special};
+ghost use Rattle.stim_lexer.specs.private.Special.{is_rare, is_special, IsPlain};
 
 use memchr::memchr;
 
@@ -47,9 +47,8 @@ fn is_special(byte: u8) -> bool
     !(32..=122).contains(&byte) | (byte == b'#')
 }
 
-/// Whether a line has a special byte. Each line is tested, many bytes at once.
-#[inline(always)]
-pub(crate) fn any_special(line: &[u8]) -> bool
+#[inline(never)]
+fn any_special(line: &[u8]) -> bool
     ensures { result ≡ list_any is_special line.now }
 {
     let mut special = false;
@@ -57,6 +56,86 @@ pub(crate) fn any_special(line: &[u8]) -> bool
         special |= is_special(*byte);
     }
     special
+}
+
+/// Whether a byte is special, and doesn't end a line.
+#[inline(always)]
+fn is_rare(byte: u8) -> bool
+    ensures { result ≡ is_rare byte }
+{
+    is_special(byte) & (byte != b'\n')
+}
+
+#[inline(always)]
+fn any_rare(piece: &[u8]) -> bool
+    ensures { result ≡ list_any is_rare piece.now }
+{
+    let mut rare = false;
+    for byte in piece {
+        rare |= is_rare(*byte);
+    }
+    rare
+}
+
+/// How many bytes are tested at once.
+const PIECE: usize = 64;
+
+/// How many bytes are tested before the lines among them are read.
+const AHEAD: usize = 4096;
+
+/// How many bytes in front of a text are found to be plain, several lines at once.
+#[inline(never)]
+fn plain_front(text: &[u8]) -> usize
+    ensures { IsPlain result text.now }
+{
+    let mut front = 0;
+    while front < AHEAD && front + PIECE <= text.len() && !any_rare(&text[front..front + PIECE]) {
+        front += PIECE;
+    }
+    front
+}
+
+/// How many bytes in front of a text are known to be plain, where so many were. More are looked for where a line is longer.
+#[inline(always)]
+fn plain_for(plain: usize, text: &[u8], line: &[u8]) -> usize
+    requires { IsPlain plain text.now }
+    ensures { IsPlain result text.now }
+{
+    if line.len() <= plain {
+        plain
+    } else {
+        plain_front(text)
+    }
+}
+
+/// Whether a line has a special byte, where it is known that it has none if it isn't longer than what is plain.
+#[inline(always)]
+fn has_special(plain: usize, line: &[u8]) -> bool
+    requires { length line.now ≤ plain → list_any is_special line.now ≡ false }
+    ensures { result ≡ list_any is_special line.now }
+{
+    if line.len() <= plain {
+        false
+    } else {
+        any_special(line)
+    }
+}
+
+/// Whether the first line of a text has a special byte, and how many bytes are known to be plain behind the line, where so
+/// many in front of the text were.
+#[inline(always)]
+pub(crate) fn judge_line(plain: usize, text: &[u8], line: &[u8], after: &[u8]) -> (bool, usize)
+    requires plain { IsPlain plain text.now }
+    requires first { IsFirstLine text.now line.now after.now }
+    ensures special { result.0 ≡ list_any is_special line.now }
+    ensures plain { IsPlain result.1 after.now }
+{
+    let plain = plain_for(plain, text, line);
+    let special = has_special(plain, line);
+    (
+        special,
+        plain.saturating_sub(line.len() + 1).min(after.len()),
+    )
 }
 
 /// Where the first byte stands that isn't a blank.

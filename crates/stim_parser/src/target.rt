@@ -102,8 +102,20 @@ fn marked_of(piece: &[u8]) -> Option<Target>
 }
 
 /// The target that a piece writes.
+#[inline(always)]
 #[tactic(auto, unfolding(crate::specs::Targets::target_of))]
 fn target_of(piece: &[u8]) -> Option<Target>
+    ensures { result ≡ target_of piece.now }
+{
+    match piece {
+        [b'X' | b'Y' | b'Z', ..] => pauli_of(false, piece),
+        _ => other_target_of(piece),
+    }
+}
+
+/// The same for any piece; those of a letter at a qubit are found sooner above.
+#[tactic(auto, unfolding(crate::specs::Targets::target_of))]
+fn other_target_of(piece: &[u8]) -> Option<Target>
     ensures { result ≡ target_of piece.now }
 {
     if let Some(number) = number_of(piece) {

@@ -14,7 +14,7 @@ pub loop-self-preserved : goal.loop-self-preserved
 loop-self-preserved c = (
   sym (after_silent-passes _ _ _ _ _ _ c.first_line.ensures.lines c.content_of-content.ensures c.is_empty-in-loop-self.ensures c.if-not-is_empty.false)
       ∙ c.loop-self.invariant.0,
-  omega arith,
+  (omega arith, c.judge_line-special.ensures.plain),
 )
 
 pub returns-clause-rest : goal.returns-clause-rest
