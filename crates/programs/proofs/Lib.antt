@@ -28,3 +28,4 @@ pub mod FaultOrders
 pub mod Walking
 pub mod FaultRuns
 pub mod FaultsAhead
+pub mod RunLaws

@@ -1,5 +1,6 @@
 pub mod Held
 pub mod KeptNodes
 pub mod Moves
+pub mod Runs
 pub mod Turns
 pub mod WalkStates
