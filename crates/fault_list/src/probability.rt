@@ -1,5 +1,5 @@
 //! The text of a fault's probability, kept for the faults that follow: most have the same.
-ghost use Rattle.std.specs.Prelude.{◌≡◌, ◌<◌, ◌≤◌, ◌+◌, IfSome, length, slice_index_or};
+ghost use Rattle.std.specs.Prelude.{◌≡◌, ◌<◌, ◌≤◌, ◌+◌, true, IfSome, length, slice_index_or};
 ghost use Rattle.step_model.specs.Chances.{chance_at};
 ghost use Rattle.fault_list.specs.private.KeptTexts.{HasProbability, probability_text};
 ghost use Rattle.fault_list.specs.private.PutTexts.{Puts};
@@ -22,12 +22,11 @@ pub(crate) struct Probability<'t, 'a> {
 }
 
 impl<'t, 'a> Model for Probability<'t, 'a> {
-    ghost use Rattle.programs.specs.declared.entries.ChanceTable.{ChanceTable};
-    ghost use Rattle.fault_list.specs.private.KeptTexts.{HasProbability};
+    ghost use Rattle.fault_list.specs.private.KeptTexts.{HasProbability, KeptProbability};
 
-    ghost Value = { ChanceTable };
+    ghost Value = { KeptProbability };
 
-    ghost view = { λ p. p.table };
+    ghost view = { λ p. record { table = p.table; part = p.part } };
 
     ghost invariant = { λ p. HasProbability p.table.parts.now p.part p.len p.text };
 }
@@ -35,7 +34,7 @@ impl<'t, 'a> Model for Probability<'t, 'a> {
 impl<'t, 'a> Probability<'t, 'a> {
     /// None is kept yet.
     pub(crate) fn none(table: ChanceTable<'t, 'a>) -> Self
-        ensures { result ≡ table.entry }
+        ensures { result.table ≡ table.entry }
     {
         Probability {
             table,
@@ -50,36 +49,48 @@ impl<'t, 'a> Probability<'t, 'a> {
     #[inline(always)]
     pub(crate) fn put(&mut self, buffer: &mut [u8], at: usize, entry: u32) -> Option<usize>
         requires room { at + KEPT ≤ length buffer.old }
-        requires entry { entry < length self.old.numbers.now }
-        requires part { slice_index_or self.old.numbers.now entry 0 < length self.old.parts.now }
-        ensures same { self.new ≡ self.old }
+        requires entry { entry < length self.old.table.numbers.now }
+        requires part { slice_index_or self.old.table.numbers.now entry 0
+            < length self.old.table.parts.now }
+        ensures same { self.new.table ≡ self.old.table }
         ensures from { IfSome result (λ end. at ≤ end) }
         ensures put { Puts KEPT at
             (probability_text
-            (chance_at self.old.parts.now (slice_index_or self.old.numbers.now entry 0)).text)
+            (chance_at self.old.table.parts.now
+            (slice_index_or self.old.table.numbers.now entry 0)).text)
             buffer.old buffer.new result }
     {
         let part = self.table.numbers[entry as usize] as usize;
-        if part == self.part {
-            return Some(put_first(buffer, at, self.text, self.len));
+        if !self.turn_to(part) {
+            return None;
         }
-        self.put_other(buffer, at, part)
+        Some(put_first(buffer, at, self.text, self.len))
     }
 
-    // Puts the text with a number, and keeps it, where it is short.
+    // Turns to the text with a number. Answers whether it is kept then.
+    #[inline(always)]
+    fn turn_to(&mut self, part: usize) -> bool
+        requires { part < length self.old.table.parts.now }
+        ensures same { self.new.table ≡ self.old.table }
+        ensures part { result ≡ true → self.new.part ≡ part }
+    {
+        if part == self.part {
+            return true;
+        }
+        self.keep(part)
+    }
+
+    // Keeps the text with a number, where it is short. Answers whether it is.
     #[inline(never)]
-    fn put_other(&mut self, buffer: &mut [u8], at: usize, part: usize) -> Option<usize>
-        requires room { at + KEPT ≤ length buffer.old }
-        requires part { part < length self.old.parts.now }
-        ensures same { self.new ≡ self.old }
-        ensures from { IfSome result (λ end. at ≤ end) }
-        ensures put { Puts KEPT at (probability_text (chance_at self.old.parts.now part).text)
-            buffer.old buffer.new result }
+    fn keep(&mut self, part: usize) -> bool
+        requires { part < length self.old.table.parts.now }
+        ensures same { self.new.table ≡ self.old.table }
+        ensures part { result ≡ true → self.new.part ≡ part }
     {
         let parts = self.table.parts;
         let text = parts[part].text;
         if text.len() > KEPT - 2 {
-            return None;
+            return false;
         }
         let mut kept = [b' '; KEPT];
         let end = put_byte(&mut kept, 0, b' ');
@@ -87,6 +98,6 @@ impl<'t, 'a> Probability<'t, 'a> {
         self.len = put_byte(&mut kept, end, b' ');
         self.text = kept;
         self.part = part;
-        Some(put_first(buffer, at, kept, self.len))
+        true
     }
 }

@@ -38,7 +38,7 @@ pub(crate) struct KeptTexts<'t, 'a> {
 impl<'t, 'a> KeptTexts<'t, 'a> {
     /// Before the first line of a program.
     pub(crate) fn new<A: Allocator + Copy>(program: &'t Program<'a, A>) -> Self
-        ensures { TellsChances program.now.kept result.probability }
+        ensures { TellsChances program.now.kept result.probability.table }
     {
         KeptTexts {
             number: Counter::new(),
@@ -60,8 +60,8 @@ pub(crate) fn put_line<'t, 'a, A: Allocator + Copy>(
 ) -> Option<usize>
     requires room { at + LINE ≤ length buffer.old }
     requires fault { IsFaultOf program.now fault }
-    requires texts { TellsChances program.now.kept texts.old.probability }
-    ensures same { texts.new.probability ≡ texts.old.probability }
+    requires texts { TellsChances program.now.kept texts.old.probability.table }
+    ensures same { texts.new.probability.table ≡ texts.old.probability.table }
     ensures within { IfSome result (λ end. end ≤ at + LINE) }
     ensures written { IfSome result (λ end. take end buffer.new
         ≡ take at buffer.old ++ fault_line program.now.listing fault.number) }
@@ -84,7 +84,7 @@ fn put_effect<'t, 'a, A: Allocator + Copy>(
 ) -> Option<usize>
     requires room { at + WORD + 8 ≤ length buffer.old }
     requires fault { IsFaultOf program.now fault }
-    ensures same { texts.new.probability ≡ texts.old.probability }
+    ensures same { texts.new.probability.table ≡ texts.old.probability.table }
     ensures put { Puts WORD at
         (effect_text program.now.listing.qubits (effect_at program.now.listing fault.number))
         buffer.old buffer.new result }

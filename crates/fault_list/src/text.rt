@@ -92,9 +92,9 @@ fn write_line<'t, 'a, A: Allocator + Copy, W: Sink>(
 ) -> usize
     requires held { held ≤ LAST_LINE }
     requires fault { IsFaultOf program.now fault }
-    requires texts { TellsChances program.now.kept desk.old.texts.probability }
+    requires texts { TellsChances program.now.kept desk.old.texts.probability.table }
     ensures held { result ≤ LAST_LINE }
-    ensures texts { desk.new.texts.probability ≡ desk.old.texts.probability }
+    ensures texts { desk.new.texts.probability.table ≡ desk.old.texts.probability.table }
     ensures pushed { PushesSome W.taken W.failures sink.old sink.new out.old out.new
         (take held desk.old.lines) (take result desk.new.lines)
         (fault_line program.now.listing fault.number) }
@@ -121,7 +121,7 @@ fn write_long_line<'t, 'a, A: Allocator + Copy, W: Sink>(
     fault: FoundFault,
 )
     requires { IsFaultOf program.now fault }
-    ensures texts { desk.new.texts.probability ≡ desk.old.texts.probability }
+    ensures texts { desk.new.texts.probability.table ≡ desk.old.texts.probability.table }
     ensures pushed { Pushes W.taken W.failures sink.old sink.new out.old out.new
         (fault_line program.now.listing fault.number) }
 {

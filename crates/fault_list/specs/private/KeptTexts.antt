@@ -2,6 +2,7 @@
 use Rattle.std.specs.Prelude.{◌≡◌, ◌<◌, ◌≤◌, ℕ, List, [], ◌∷◌, ◌++◌, codes, decimal, length, take}
 use Rattle.step_model.specs.declared.chances.ChanceText.{ChanceText}
 use Rattle.step_model.specs.Chances.{chance_at}
+use Rattle.programs.specs.declared.entries.ChanceTable.{ChanceTable}
 
 -- the first bytes are the digits of a number
 pub record HasDigits (number len : ℕ) (bytes : List ℕ) : Type 0 where
@@ -22,3 +23,8 @@ probability_text text = codes " " ++ text ++ codes " "
 pub record HasProbability (parts : List ChanceText) (part len : ℕ) (bytes : List ℕ) : Type 0 where
   pub within : len ≤ 32
   pub text : part < length parts → take len bytes ≡ probability_text (chance_at parts part).text
+
+-- a table of probabilities, and the number of the part whose text is kept
+pub record KeptProbability : Type 0 where
+  pub table : ChanceTable
+  pub part : ℕ

@@ -20,5 +20,5 @@ returns-clause-written g c =
     let number = c.args.fault.number in
     let before = take c.args.at c.args.buffer.now in
     let effect = effect_text program.qubits (effect_at program number) in
-    let text = text_told c.args.program.now c.args.texts.now.probability c.args.fault.entry c.requires.texts c.requires.fault.entry in
+    let text = text_told c.args.program.now c.args.texts.now.probability.table c.args.fault.entry c.requires.texts c.requires.fault.entry in
     line_put before (decimal number) effect c.put-end.ensures.written c.in_ok-end.ensures.put.written c.in_ok-end-2.ensures.put.written c.put_byte.ensures.written (text ∙ c.requires.fault.text)

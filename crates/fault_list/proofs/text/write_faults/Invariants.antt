@@ -14,7 +14,7 @@ invariant-loop-fault g l =
       program : l.walk.program ≡ l.program;
       run : All (IsFaultOf l.program) l.run;
       held : l.held ≤ 20224;
-      texts : TellsChances l.program.kept l.desk.texts.probability;
+      texts : TellsChances l.program.kept l.desk.texts.probability.table;
       rest : (i : ℕ) × (i ≤ length l.program.listing.faults) × (left_in l.run l.walk ≡ range_with_len i (length l.program.listing.faults - i)) × PushesSome g.W.Sink.taken g.W.Sink.failures l.fn.sink l.sink l.fn.out l.out [] (take l.held l.desk.lines) (flat_map (fault_line l.program.listing) (range_with_len 0 i));
     }
 
