@@ -13,9 +13,6 @@ use std::marker::Model;
 /// How long a block is, in bytes.
 const BLOCK: usize = 65536;
 
-/// How many zeros are copied at once into a new block.
-const ZEROS: usize = 1024;
-
 /// Bytes that are filled from their end: those from `start` on are text.
 #[derive(Drop)]
 pub(crate) struct TextBlock<A: Allocator + Copy> {
@@ -50,7 +47,7 @@ impl<A: Allocator + Copy> TextBlock<A> {
         ensures { IfOk result (λ block. block ≡ no_text BLOCK) }
     {
         Ok(TextBlock {
-            bytes: zeros(alloc)?,
+            bytes: vec![in alloc; 0u8; BLOCK]?,
             start: BLOCK,
         })
     }
@@ -123,15 +120,4 @@ impl<A: Allocator + Copy> TextBlock<A> {
         let at = names.either_before(bytes, at, targets, reversed);
         self.start = text.head_before(bytes, at);
     }
-}
-
-// As many zeros as a block has bytes. They are copied, since a vector that is filled with one byte is filled byte by byte.
-fn zeros<A: Allocator + Copy>(alloc: A) -> Result<Vec<u8, A>, AllocError>
-    ensures { IfOk result (λ bytes. length bytes.items ≡ BLOCK) }
-{
-    let mut bytes = Vec::with_capacity(alloc, BLOCK)?;
-    for _ in 0..BLOCK / ZEROS {
-        bytes.extend_from_slice(&[0; ZEROS])?;
-    }
-    Ok(bytes)
 }
