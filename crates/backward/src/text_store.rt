@@ -26,7 +26,7 @@ const WHOLE_PART: usize = 8;
 const STEPS: usize = 32;
 
 /// After how many steps it is asked whether the text is full, at most.
-const STRIDE: usize = 16;
+const STRIDE: usize = 64;
 
 /// One of these steps for each so many bytes of the room.
 const STEP_ROOM: usize = 4096;

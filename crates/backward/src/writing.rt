@@ -62,7 +62,7 @@ pub fn write_analysis<'a, A: Allocator + Copy, T: Tracker + Drop, W: Sink>(
 }
 
 /// The same, with a room of this many bytes for the text of error lines. Parts of the text are found in a second pass. The
-/// lines of 16 steps come beside what is held, at most.
+/// lines of 64 steps come beside what is held, at most.
 pub fn write_in_parts<'a, A: Allocator + Copy, T: Tracker + Drop, W: Sink>(
     alloc: A,
     program: &Program<'a, A>,
