@@ -56,7 +56,7 @@ rises law =
 within-weaker : {X : Type 0} {g : Gathering ℕ X} {shift : ℕ → X → X} {Within : ℕ → X → Type 0} → CountsRecords g shift Within → (r s : ℕ) (xs : List X) → r ≤ s → All (Within r) xs → All (Within s) xs
 within-weaker {X} {g} {shift} {Within} law r s xs le h = All-weaker (Within r) (Within s) (λ x k. law.weaker r s x le k) xs h
 
-later-within : {X : Type 0} {g : Gathering ℕ X} {shift : ℕ → X → X} {Within : ℕ → X → Type 0} → CountsRecords g shift Within → (n r by : ℕ) (xs : List X) → All (Within r) xs → All (Within (r + n * by)) (later (λ k. shift (k * by)) n xs)
+pub later-within : {X : Type 0} {g : Gathering ℕ X} {shift : ℕ → X → X} {Within : ℕ → X → Type 0} → CountsRecords g shift Within → (n r by : ℕ) (xs : List X) → All (Within r) xs → All (Within (r + n * by)) (later (λ k. shift (k * by)) n xs)
 later-within {X} {g} {shift} {Within} law zero r by xs h = All-nil (Within (r + 0 * by))
 later-within {X} {g} {shift} {Within} law (suc n) r by xs h =
     let fewer : r + n * by ≤ r + suc n * by = omega arith in

@@ -12,6 +12,7 @@ pub mod TurnLemmas
 pub mod RecordLemmas
 pub mod CountLemmas
 pub mod DetectorLemmas
+mod ManyTurns
 pub mod ObservableLemmas
 pub mod IncludingLemmas
 pub mod NoteLemmas

@@ -1,5 +1,5 @@
 -- What later turns of a block give, appended one list and one turn at a time.
-use Rattle.std.proofs.Common.{◌≡◌, ℕ, zero, suc, ◌+◌, ◌-◌, ◌<◌, ◌≤◌, List, [], ◌∷◌, ◌++◌, length, get_or, take, drop, map, refl, sym, ap, ap₂, ◌∙◌, subst, append_assoc, append-nil, add-one, arith, length-drop}
+use Rattle.std.proofs.Common.{◌≡◌, ℕ, zero, suc, ◌+◌, ◌-◌, ◌<◌, ◌≤◌, List, [], ◌∷◌, ◌++◌, length, get_or, take, drop, map, refl, sym, ap, ◌∙◌, subst, append_assoc, append-nil, add-one, arith, length-drop}
 use Rattle.std.specs.Prelude.{All, slice_range}
 use Rattle.std.proofs.lemmas.List.{drop-append-le, drop_all, get_or-drop, get_or-take, get_or_append_left, length-take-le, map_more, take-append-le, take_all}
 use Rattle.flat_lists.specs.Turns.{later}
@@ -43,14 +43,6 @@ part-before start more first end low e =
     ap (take (end - first)) (drop-append-le first start more within)
     ∙ take-append-le (end - first) (drop first start) more size
     ∙ take_all (end - first) (drop first start) all
-
--- one turn more
-pub turns-more : {X : Type 0} (move : ℕ → X → X) (start now next given : List X) (turn : ℕ) → now ≡ start ++ later move turn given → next ≡ now ++ map (move (turn + 1)) given → next ≡ start ++ later move (turn + 1) given
-turns-more move start now next given turn n e =
-    e
-    ∙ ap₂ (λ xs k. xs ++ map (move k) given) n (add-one turn)
-    ∙ append_assoc start (later move turn given) (map (move (suc turn)) given)
-    ∙ ap (λ k. start ++ later move k given) (sym (add-one turn))
 
 -- what one later turn more gives
 pub later-more : {X : Type 0} (move : ℕ → X → X) (turn : ℕ) (given : List X) → later move turn given ++ map (move (turn + 1)) given ≡ later move (turn + 1) given

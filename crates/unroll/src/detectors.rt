@@ -85,8 +85,17 @@ fn push_later_turns<A: Allocator + Copy>(
     if end <= first {
         return Ok(());
     }
-    for turn in 0..turns {
-        lists.push_moved(first, end, ((turn + 1) * by) as u32)?;
+    let size = end - first;
+
+    // Those that stand there already are moved on at once, so that blocks of few lists take few calls.
+    let mut done = 0;
+    while done < turns {
+        let more = (turns - done).min(done + 1);
+        // So many that the next place fits.
+        let _stand = lists.len();
+        let next = first + more as usize * size;
+        lists.push_moved(first, next, ((done + 1) * by) as u32)?;
+        done += more;
     }
     Ok(())
 }
