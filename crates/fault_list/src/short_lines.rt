@@ -12,7 +12,7 @@ use crate::counter::{Counter, digits_of};
 use crate::letters::{acts, letter_byte};
 use crate::probability::Probability;
 use crate::put::{put_byte, put_first, put_text};
-use crate::qubit_names::{NAMED, QubitNames};
+use crate::qubit_names::QubitNames;
 use programs::{FoundFault, Program};
 use std::alloc::Allocator;
 use step_model::Term;
@@ -44,7 +44,7 @@ impl<'t, 'a> KeptTexts<'t, 'a> {
             number: Counter::new(),
             probability: Probability::none(program.chances()),
             record: Counter::new(),
-            names: QubitNames::new(),
+            names: QubitNames::new(program.qubits()),
         }
     }
 }
@@ -92,12 +92,7 @@ fn put_effect<'t, 'a, A: Allocator + Copy>(
     program.well_formed();
     match fault.flips {
         Some(r) => Some(put_record(buffer, at, &mut texts.record, r)),
-        None => put_word(
-            buffer,
-            at,
-            &mut texts.names,
-            program.entry_terms(fault.entry),
-        ),
+        None => put_word(buffer, at, &texts.names, program.entry_terms(fault.entry)),
     }
 }
 
@@ -115,7 +110,7 @@ fn put_record(buffer: &mut [u8], at: usize, record: &mut Counter, r: u32) -> usi
 // Puts the word of some terms. Two at descending qubits are exchanged first. One or two, as most words have, are written
 // with no loop.
 #[inline(always)]
-fn put_word(buffer: &mut [u8], at: usize, names: &mut QubitNames, terms: &[Term]) -> Option<usize>
+fn put_word(buffer: &mut [u8], at: usize, names: &QubitNames, terms: &[Term]) -> Option<usize>
     requires { at + WORD + 8 ≤ length buffer.old }
     ensures { (qubits : ℕ) → TermsFit qubits terms.now
         → Puts WORD at (word_text (word_of_terms qubits terms.now)) buffer.old buffer.new result }
@@ -133,12 +128,7 @@ fn put_word(buffer: &mut [u8], at: usize, names: &mut QubitNames, terms: &[Term]
 // Puts the word of terms at ascending qubits. It answers none where there are no terms or many, where their qubits
 // don't ascend, or where one of them is I.
 #[inline(always)]
-fn put_ordered(
-    buffer: &mut [u8],
-    at: usize,
-    names: &mut QubitNames,
-    terms: &[Term],
-) -> Option<usize>
+fn put_ordered(buffer: &mut [u8], at: usize, names: &QubitNames, terms: &[Term]) -> Option<usize>
     requires { at + WORD + 8 ≤ length buffer.old }
     ensures { (qubits : ℕ) → TermsFit qubits terms.now
         → Puts WORD at (word_text (word_of_terms qubits terms.now)) buffer.old buffer.new result }
@@ -171,7 +161,7 @@ fn is_ordered(terms: &[Term]) -> bool
 
 // Puts factors, each after `*`.
 #[inline(always)]
-fn put_factors(buffer: &mut [u8], at: usize, names: &mut QubitNames, terms: &[Term]) -> usize
+fn put_factors(buffer: &mut [u8], at: usize, names: &QubitNames, terms: &[Term]) -> usize
     requires room { at + length terms.now * 12 + 6 ≤ length buffer.old }
     ensures within { result ≤ at + length terms.now * 12 }
     ensures written { take result buffer.new ≡ take at buffer.old ++ starred_factors terms.now }
@@ -185,7 +175,7 @@ fn put_factors(buffer: &mut [u8], at: usize, names: &mut QubitNames, terms: &[Te
 
 // Puts a factor after `*`.
 #[inline(always)]
-fn put_starred(buffer: &mut [u8], at: usize, names: &mut QubitNames, term: Term) -> usize
+fn put_starred(buffer: &mut [u8], at: usize, names: &QubitNames, term: Term) -> usize
     requires room { at + 18 ≤ length buffer.old }
     ensures within { result ≤ at + 12 }
     ensures written { take result buffer.new
@@ -196,7 +186,7 @@ fn put_starred(buffer: &mut [u8], at: usize, names: &mut QubitNames, term: Term)
 }
 
 #[inline(always)]
-fn put_factor(buffer: &mut [u8], at: usize, names: &mut QubitNames, term: Term) -> usize
+fn put_factor(buffer: &mut [u8], at: usize, names: &QubitNames, term: Term) -> usize
     requires room { at + 17 ≤ length buffer.old }
     ensures within { result ≤ at + 11 }
     ensures written { take result buffer.new
@@ -207,12 +197,12 @@ fn put_factor(buffer: &mut [u8], at: usize, names: &mut QubitNames, term: Term) 
 }
 
 #[inline(always)]
-fn put_qubit(buffer: &mut [u8], at: usize, names: &mut QubitNames, qubit: u32) -> usize
+fn put_qubit(buffer: &mut [u8], at: usize, names: &QubitNames, qubit: u32) -> usize
     requires room { at + 16 ≤ length buffer.old }
     ensures within { result ≤ at + 10 }
     ensures written { take result buffer.new ≡ take at buffer.old ++ decimal qubit }
 {
-    if (qubit as usize) < NAMED {
+    if names.has(qubit) {
         names.put(buffer, at, qubit)
     } else {
         put_number(buffer, at, qubit)
