@@ -35,10 +35,7 @@ fn named(alloc: Global, program: &Program<'_, Global>) -> Result<Vec<u32>, Alloc
 }
 
 /// The same, with those that follow one another taken from a run of them.
-fn named_in_runs(
-    alloc: Global,
-    program: &Program<'_, Global>,
-) -> Result<Vec<u32>, AllocError> {
+fn named_in_runs(alloc: Global, program: &Program<'_, Global>) -> Result<Vec<u32>, AllocError> {
     let mut entries = Vec::new(alloc);
     let mut walk = Walk::start(program);
     let mut run = FaultRun::none();
