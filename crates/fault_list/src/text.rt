@@ -14,7 +14,7 @@ use crate::short_lines::{KeptTexts, put_line};
 use crate::word::{SPAN, write_word};
 use itoa::Buffer;
 use pauli_word::Letter;
-use programs::{FaultRun, FoundFault, Program, Walk, next_fault_in};
+use programs::{FoundFault, Program, Walk, next_fault};
 use std::alloc::Allocator;
 use step_model::{Fault, Pieces, Sink};
 
@@ -72,9 +72,8 @@ fn write_faults<'a, A: Allocator + Copy, W: Sink>(
         letters: [Letter::I; SPAN],
     };
     let mut walk = Walk::start(program);
-    let mut run = FaultRun::none();
     let mut held = 0;
-    while let Some(fault) = next_fault_in(&mut run, &mut walk) {
+    while let Some(fault) = next_fault(&mut walk) {
         held = write_line(out, sink, &mut desk, held, program, fault);
     }
     out.push(sink, &desk.lines[..held]);

@@ -1,7 +1,6 @@
 -- What a walk keeps over the faults that it passes on its way forward.
-use Rattle.std.proofs.Common.{◌≡◌, ℕ, zero, suc, ◌+◌, ◌<◌, ◌≤◌, ◌^◌, get_or, true, false, Option, None, Some, refl, ap, subst, sym, ◌∙◌, arith}
+use Rattle.std.proofs.Common.{◌≡◌, ℕ, zero, suc, ◌+◌, ◌<◌, ◌≤◌, ◌^◌, true, false, Option, None, Some, refl, ap, subst, sym, ◌∙◌, arith}
 use Rattle.std.specs.Prelude.{slice_get}
-use Rattle.std.proofs.lemmas.Option.{get_or_from_slice_get}
 use Rattle.step_model.specs.Listing.{Fault}
 use Rattle.programs.specs.declared.node.Node.{Node}
 use Rattle.programs.specs.declared.node.Node.TheVariants.{Do}
@@ -15,7 +14,6 @@ use Rattle.programs.specs.Numbering.{counts_after, named, no_counts}
 use Rattle.programs.specs.Steps.{NextFault, NextFaults, StaysBeforeNoFault, is_fault_node, is_step}
 use Rattle.programs.specs.Trees.{tree_of, unrolled}
 use Rattle.programs.specs.Walks.{ArePassed, is_fault}
-use Rattle.programs.specs.private.Runs.{entry_at}
 use Rattle.programs.specs.private.WalkStates.{IsWalkOf}
 use Rattle.programs.proofs.FaultRuns.{fault_there, listed_fault}
 use Rattle.programs.proofs.Numbers.{few}
@@ -29,15 +27,14 @@ abbrev pub more : Counts → ℕ → Counts
 more c count = record { records = c.records; collapses = c.collapses; faults = c.faults + count }
 
 module _ {A : Type 0} (program : KeptProgram) (text : Text A) where
-  pub record AreAhead (first : ℕ) (new : Place) (counted : Counts) (k count : ℕ) : Type 0 where
+  pub record AreAhead (new : Place) (counted : Counts) (k count : ℕ) : Type 0 where
     pub few_steps : k + count < 2 ^ 32
     pub few_faults : counted.faults + count < 2 ^ 32
     pub each : (i : ℕ) → i < count → slice_get program.listing.steps (k + i) ≡ Some (Fault (counted.faults + i))
-    pub named : (i : ℕ) (n : Node) → i < count → IsNamed program (named (counted.faults + i) (entry_at (get_or text.nodes.now (first + i) n)))
     pub walk : IsWalkOf program text new (more counted count) (k + count)
 
   over_faults : (count first : ℕ) (new : Place) (counted : Counts) (k : ℕ) → new.index ≡ first + count → IsWalkOf program text (record { index = first; turns = new.turns }) counted k
-      → ((i : ℕ) → first ≤ i → i < first + count → is_fault_node (slice_get text.nodes.now i) ≡ true) → AreAhead first new counted k count
+      → ((i : ℕ) → first ≤ i → i < first + count → is_fault_node (slice_get text.nodes.now i) ≡ true) → AreAhead new counted k count
   over_faults zero first new counted k e both each =
       let none : (n : ℕ) → n ≡ n + 0 = λ n. omega arith in
       let walk = both.walk in
@@ -47,7 +44,6 @@ module _ {A : Type 0} (program : KeptProgram) (text : Text A) where
         few_steps = omega (arith, within, walk.short);
         few_faults = omega (arith, within, walk.short, ap (λ (c : Counts). c.faults) walk.counts, (few no_counts steps k).faults);
         each = λ i below. absurd (omega arith);
-        named = λ i n below. absurd (omega arith);
         walk =
             subst (λ f. IsWalkOf program text new (record { records = counted.records; collapses = counted.collapses; faults = f }) (k + 0)) (none counted.faults)
             (subst (IsWalkOf program text new counted) (none k)
@@ -68,24 +64,9 @@ module _ {A : Type 0} (program : KeptProgram) (text : Text A) where
         few_steps = omega (arith, rest.few_steps);
         few_faults = omega (arith, rest.few_faults);
         each = numbered k counted.faults count (sym one.step_is) rest.each;
-        named = λ i n. all_named counted.faults first count n (subst (λ e. IsNamed program (named counted.faults e)) (ap entry_at (sym (get_or_from_slice_get text.nodes.now first (Do s) n there.1))) one.named) (λ j. rest.named j n) i;
         walk = subst (IsWalkOf program text new (more counted (suc count))) places (subst (λ (c : Counts). IsWalkOf program text new c (k + 1 + count)) same rest.walk);
       }
     where
-      all_named : (f first count : ℕ) (n : Node) → IsNamed program (named f (entry_at (get_or text.nodes.now first n)))
-          → ((i : ℕ) → i < count → IsNamed program (named (f + 1 + i) (entry_at (get_or text.nodes.now (first + 1 + i) n))))
-          → (i : ℕ) → i < suc count → IsNamed program (named (f + i) (entry_at (get_or text.nodes.now (first + i) n)))
-      all_named f first count n here rest zero below =
-          let number : f ≡ f + 0 = omega arith in
-          let index : first ≡ first + 0 = omega arith in
-          subst (λ i. IsNamed program (named (f + 0) (entry_at (get_or text.nodes.now i n)))) index
-          (subst (λ m. IsNamed program (named m (entry_at (get_or text.nodes.now first n)))) number here)
-      all_named f first count n here rest (suc i) below =
-          let number : f + 1 + i ≡ f + suc i = omega arith in
-          let index : first + 1 + i ≡ first + suc i = omega arith in
-          subst (λ j. IsNamed program (named (f + suc i) (entry_at (get_or text.nodes.now j n)))) index
-          (subst (λ m. IsNamed program (named m (entry_at (get_or text.nodes.now (first + 1 + i) n)))) number (rest i (omega (arith, below))))
-
       numbered : (k f count : ℕ) → slice_get program.listing.steps k ≡ Some (Fault f)
           → ((i : ℕ) → i < count → slice_get program.listing.steps (k + 1 + i) ≡ Some (Fault (f + 1 + i)))
           → (i : ℕ) → i < suc count → slice_get program.listing.steps (k + i) ≡ Some (Fault (f + i))
@@ -152,10 +133,7 @@ module _ {A : Type 0} (program : KeptProgram) (text : Text A) where
       record { walk = after; none = no_fault new counted k (slice_get text.nodes.now new.index) after refl stays.none stays.end }
 
   pub record Ahead (new : Place) (counted : Counts) (k most count : ℕ) : Type 0 where
-    pub first : ℕ
-    pub first_is : new.index ≡ first + count
-    pub faults : (i : ℕ) → first ≤ i → i < first + count → is_fault_node (slice_get text.nodes.now i) ≡ true
-    pub over : AreAhead first new counted k count
+    pub over : AreAhead new counted k count
     pub few : count < 2 ^ 32
     pub passed : ArePassed program.listing.steps k count
     pub none : 0 < most → count ≡ 0 → is_fault (slice_get program.listing.steps k) ≡ false
@@ -171,9 +149,6 @@ module _ {A : Type 0} (program : KeptProgram) (text : Text A) where
       let over = over_faults count went.first new counted k went.first_is moved went.each in
       let number = (are_counted program text old counted k both).faults in
       record {
-        first = went.first;
-        first_is = went.first_is;
-        faults = went.each;
         over = over;
         few = omega (arith, over.few_steps);
         passed = λ i below. over.each i below ∙ ap (λ f. Some (Fault (f + i))) number;

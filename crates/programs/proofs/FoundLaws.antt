@@ -14,7 +14,11 @@ use Rattle.programs.specs.declared.step.Step.{Step}
 use Rattle.programs.specs.declared.step.Step.TheVariants.{One, Two, Collapse, CollapseWord, Fault, Feedback}
 use Rattle.programs.specs.Listed.{listed, measured, product_at}
 use Rattle.programs.specs.Named.{IsNamed, IsStepOf}
-use Rattle.programs.specs.Found.{found, fault_in, number_in, IsFaultOf}
+use Rattle.programs.specs.declared.fault_walk.FoundFault.{FoundFault}
+use Rattle.programs.specs.Found.{found, fault_in, IsFaultOf}
+
+abbrev pub number_in : FoundFault → ℕ
+number_in fault = fault.number
 
 -- the fault of a step is the one that its listed step names
 pub faults_of_step : (n : ℕ) (products : List (List Term)) (step : Step) → step_faults (listed n products step) ≡ option_to_list (option_map number_in (fault_in step))

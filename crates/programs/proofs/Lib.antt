@@ -28,4 +28,3 @@ pub mod FaultOrders
 pub mod Walking
 pub mod FaultRuns
 pub mod FaultsAhead
-pub mod RunLaws

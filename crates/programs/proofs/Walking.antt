@@ -14,8 +14,8 @@ use Rattle.programs.specs.Kept.{KeptProgram}
 use Rattle.programs.specs.Listed.{listed}
 use Rattle.programs.specs.Walks.{Walked}
 use Rattle.programs.specs.declared.fault_walk.FoundFault.{FoundFault}
-use Rattle.programs.specs.Found.{fault_in, faults_left, number_in}
-use Rattle.programs.proofs.FoundLaws.{faults_of_step, left_at, place_after}
+use Rattle.programs.specs.Found.{fault_in, faults_left}
+use Rattle.programs.proofs.FoundLaws.{faults_of_step, left_at, place_after, number_in}
 
 -- a walk went from one place to the next over a step
 pub record GoesOver (old new : Walked) (step : Step) : Type 0 where

@@ -1,6 +1,6 @@
 -- The faults of a program as a walk over its steps meets them. (Stim's circuit format: noise instructions, and the
 -- arguments of measurements.)
-use Rattle.std.specs.Prelude.{◌≡◌, ◌<◌, ◌++◌, ℕ, List, length, drop, map, Option, None, Some}
+use Rattle.std.specs.Prelude.{◌≡◌, ◌<◌, ℕ, List, length, drop, Option, None, Some}
 use Rattle.step_model.specs.Listing.{effect_at, fault_at}
 use Rattle.programs.specs.Kept.{KeptProgram, effect_terms, flipped_record, kept_at}
 use Rattle.step_model.specs.WellFormed.{faults_named}
@@ -31,14 +31,6 @@ fault_in (Feedback letter q r) = None
 -- the numbers of the faults that a walk has still to meet
 abbrev pub faults_left : Walked → List ℕ
 faults_left walk = faults_named (drop walk.place walk.program.listing.steps)
-
--- the number of a fault
-abbrev pub number_in : FoundFault → ℕ
-number_in fault = fault.number
-
--- the numbers of those that a run has, which the walk has gone over, and of those that the walk has still to meet
-abbrev pub left_in : List FoundFault → Walked → List ℕ
-left_in run walk = map number_in run ++ faults_left walk
 
 -- a fault of the program: it has this number; the entry of this number has its text, its bound and its letters; and it
 -- flips this record, if any

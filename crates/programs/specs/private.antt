@@ -1,6 +1,5 @@
 pub mod Held
 pub mod KeptNodes
 pub mod Moves
-pub mod Runs
 pub mod Turns
 pub mod WalkStates

@@ -4,7 +4,6 @@
 mod builder;
 mod entries;
 mod entry_builder;
-mod fault_run;
 mod fault_walk;
 mod kept_node;
 mod node;
@@ -19,8 +18,7 @@ mod walk;
 pub use builder::CircuitBuilder;
 pub use entries::{ChanceTable, Entries};
 pub use entry_builder::EntryBuilder;
-pub use fault_run::FaultRun;
-pub use fault_walk::{FoundFault, next_fault, next_fault_in};
+pub use fault_walk::{FoundFault, next_fault};
 pub use node::Node;
 pub use nodes::Nodes;
 pub use place::{LEVELS, Place, next};

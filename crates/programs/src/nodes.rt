@@ -1,12 +1,10 @@
 //! The nodes of a circuit, each kept in few bytes.
-ghost use Rattle.std.specs.Prelude.{◌≡◌, ℕ, ◌+◌, ◌-◌, ◌<◌, ◌≤◌, ◌^◌, [], ◌∷◌, ◌++◌, length, set, take, true, false, OnOk, OnErr, IfSome, None, Some, slice_get, slice_range};
+ghost use Rattle.std.specs.Prelude.{◌≡◌, ◌<◌, ◌≤◌, ◌^◌, [], ◌∷◌, ◌++◌, length, set, take, true, false, OnOk, OnErr, IfSome, None, Some, slice_get};
 ghost use Rattle.programs.specs.declared.node.Node.TheVariants.{Do, Open, Close};
 ghost use Rattle.programs.specs.declared.step.TextStep.TheVariants.{Fault};
 ghost use Rattle.programs.specs.Steps.{is_step, is_fault_node};
 ghost use Rattle.programs.specs.Walks.{PassesBack, PassesOn};
-ghost use Rattle.programs.specs.private.Runs.{found_from};
 
-use crate::fault_run::FaultRun;
 use crate::kept_node::{
     BlockSize, KeptNode, fault_of, is_fault, is_step, kept_step, node_of, step_of,
 };
@@ -126,21 +124,6 @@ impl<A: Allocator + Copy> Nodes<A> {
             last += 1;
         }
         last
-    }
-
-    /// The faults that stand from an index up to another, the first with a number and each other one with the next.
-    #[inline(always)]
-    pub(crate) fn fault_run(&self, first: usize, end: usize, number: u32) -> FaultRun<'_>
-        requires ordered { first ≤ end }
-        requires within { end ≤ length self.now }
-        requires few { number + (end - first) < 2 ^ 32 }
-        requires faults { (i : ℕ)
-            → first ≤ i
-            → i < end
-            → is_fault_node (slice_get self.now i) ≡ true }
-        ensures { result ≡ found_from number (slice_range self.now first end) }
-    {
-        FaultRun::new(&self.kept[first..end], number)
     }
 
     /// The node at an index, if there is one.

@@ -1,13 +1,11 @@
-ghost use Rattle.std.specs.Prelude.{◌≡◌, ◌+◌, ◌-◌, ◌<◌, ◌≤◌, ◌==◌, ◌++◌, ℕ, true, false, if◌then◌else◌, nat_lt, length, map, All, None, Some, IfSome, option_map, slice_get, take};
+ghost use Rattle.std.specs.Prelude.{◌≡◌, ◌+◌, ◌-◌, ◌<◌, ◌≤◌, ◌==◌, ℕ, true, false, if◌then◌else◌, nat_lt, length, None, Some, IfSome, option_map, slice_get, take};
 ghost use Rattle.step_model.specs.Listing.{Fault};
-ghost use Rattle.step_model.specs.WellFormed.{collapse_count, IsWellFormed};
-ghost use Rattle.programs.specs.Found.{IsFaultOf, faults_left, number_in};
+ghost use Rattle.step_model.specs.WellFormed.{collapse_count};
 ghost use Rattle.programs.specs.Listed.{listed};
 ghost use Rattle.programs.specs.Named.{IsNamed, IsStepOf};
 ghost use Rattle.programs.specs.Turns.{faults_before, records_before};
 ghost use Rattle.programs.specs.Walks.{PassesBack, PassesOver, is_fault};
 
-use crate::fault_run::FaultRun;
 use crate::place::{
     Place, next, next_fault, next_faults, previous, previous_fault, previous_faults,
 };
@@ -167,23 +165,6 @@ impl<'a, 'p, A: Allocator + Copy> Walk<'a, 'p, A> {
         self.counts.faults += 1;
         self.steps += 1;
         Some(FaultName { number, entry })
-    }
-
-    /// Goes forward over the faults that stand right after the place in one turn of a block, and answers them.
-    #[inline(always)]
-    pub fn fault_run(&mut self) -> FaultRun<'a>
-        // `Program::well_formed` gives this for each program.
-        requires { IsWellFormed self.old.program.listing }
-        ensures program { self.new.program ≡ self.old.program }
-        ensures left { faults_left self.old ≡ map number_in result ++ faults_left self.new }
-        ensures found { All (IsFaultOf self.old.program) result }
-    {
-        let number = self.counts.faults;
-        let count = next_faults(self.text.nodes, &mut self.place, usize::MAX);
-        self.counts.faults += count as u32;
-        self.steps += count;
-        let end = self.place.index;
-        self.text.nodes.fault_run(end - count, end, number)
     }
 
     /// Whether a fault stands right after the place. At the end of a turn of a block it may be missed.

@@ -1,12 +1,10 @@
 -- Each fault's line is pushed or held in its turn.
-use Rattle.std.proofs.Common.{◌+◌, List, length, refl, sym, ap, subst, ◌∙◌, arith}
-use Rattle.std.specs.Prelude.{All}
-use Rattle.programs.specs.declared.fault_walk.FoundFault.{FoundFault}
+use Rattle.std.proofs.Common.{◌+◌, length, refl, sym, subst, ◌∙◌, arith}
 use Rattle.step_model.specs.WellFormed.{IsWellFormed}
 use Rattle.programs.specs.Entries.{TellsChances}
 use Rattle.programs.specs.Kept.{KeptProgram}
 use Rattle.programs.specs.declared.entries.ChanceTable.{ChanceTable}
-use Rattle.programs.specs.Found.{IsFaultOf, left_in}
+use Rattle.programs.specs.Found.{IsFaultOf, faults_left}
 use Rattle.programs.proofs.FaultOrders.{takes_number, none_left_of}
 use Rattle.fault_list.specs.FaultLines.{fault_line}
 use Rattle.fault_list.proofs.HeldLineLemmas.{nothing_held, held_number, all_out}
@@ -17,14 +15,13 @@ pub loop-fault-init : goal.loop-fault-init
 loop-fault-init g c =
     record {
       program = c.start-walk.ensures.program;
-      run = subst (All (IsFaultOf c.args.program.now)) (sym c.none-run.ensures) (λ k d below. absurd (omega (arith, below)));
       held = omega arith;
       texts = c.new.ensures;
-      rest = (0, omega arith, ap (λ (run : List FoundFault). left_in run c.start-walk.result) c.none-run.ensures ∙ left_at_start c.args.program.now c.start-walk.result c.well_formed-2.ensures.listing c.start-walk.ensures.program c.start-walk.ensures.place, nothing_held);
+      rest = (0, omega arith, left_at_start c.args.program.now c.start-walk.result c.well_formed-2.ensures.listing c.start-walk.ensures.program c.start-walk.ensures.place, nothing_held);
     }
 
-pub next_fault_in-requires-clause-fits : goal.next_fault_in-requires-clause-fits
-next_fault_in-requires-clause-fits g c = subst (λ (p : KeptProgram). IsWellFormed p.listing) (sym c.loop-fault.invariant.program) c.well_formed-2.ensures.listing
+pub next_fault-requires : goal.next_fault-requires
+next_fault-requires g c = subst (λ (p : KeptProgram). IsWellFormed p.listing) (sym c.loop-fault.invariant.program) c.well_formed-2.ensures.listing
 
 pub write_line-held-requires-clause-fault : goal.write_line-held-requires-clause-fault
 write_line-held-requires-clause-fault g c =
@@ -35,11 +32,10 @@ loop-fault-preserved g c =
     let program = c.args.program.now.listing in
     let i = c.loop-fault.invariant.rest.0 in
     let fault = c.in-Some.fault in
-    let takes = takes_number i (length program.faults) fault.number (left_in c.next_fault_in.new.run c.next_fault_in.new.walk) (sym c.loop-fault.invariant.rest.2 ∙ c.in-Some.ensures.next) in
+    let takes = takes_number i (length program.faults) fault.number (faults_left c.next_fault.new.walk) (sym c.loop-fault.invariant.rest.2 ∙ c.in-Some.ensures.next) in
     let line = rw takes.first at c.write_line-held.ensures.pushed in
     record {
       program = c.in-Some.ensures.program ∙ c.loop-fault.invariant.program;
-      run = subst (λ (p : KeptProgram). All (IsFaultOf p) c.next_fault_in.new.run) c.loop-fault.invariant.program c.in-Some.ensures.run;
       held = c.write_line-held.ensures.held;
       texts = subst (λ (t : ChanceTable). TellsChances c.args.program.now.kept t) (sym c.write_line-held.ensures.texts) c.loop-fault.invariant.texts;
       rest = (i + 1, omega (arith, takes.below), takes.rest_is, held_number (fault_line program) i c.loop-fault.invariant.rest.3 line);

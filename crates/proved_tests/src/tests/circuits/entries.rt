@@ -1,6 +1,6 @@
 //! The entries that the faults of a text name. Faults of one letter at one qubit, and flips, share them where their probability
 //! is the same.
-use programs::{FaultRun, Program, Walk, next_fault, next_fault_in};
+use programs::{Program, Walk, next_fault};
 use std::alloc::{AllocError, Global};
 use std::test::Fail;
 use unroll::read_program;
@@ -34,24 +34,9 @@ fn named(alloc: Global, program: &Program<'_, Global>) -> Result<Vec<u32>, Alloc
     Ok(entries)
 }
 
-/// The same, with those that follow one another taken from a run of them.
-fn named_in_runs(alloc: Global, program: &Program<'_, Global>) -> Result<Vec<u32>, AllocError> {
-    let mut entries = Vec::new(alloc);
-    let mut walk = Walk::start(program);
-    let mut run = FaultRun::none();
-    program.well_formed();
-    for _ in 0..program.fault_count() {
-        if let Some(fault) = next_fault_in(&mut run, &mut walk) {
-            entries.push(fault.entry)?;
-        }
-    }
-    Ok(entries)
-}
-
 fn are_named(alloc: Global, program: &Program<'_, Global>) -> Result<bool, AllocError> {
     let entries = named(alloc, program)?;
-    let in_runs = named_in_runs(alloc, program)?;
-    Ok(entries.as_slice() == NAMED.as_slice() && in_runs.as_slice() == NAMED.as_slice())
+    Ok(entries.as_slice() == NAMED.as_slice())
 }
 
 #[test]
