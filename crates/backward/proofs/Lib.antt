@@ -1,5 +1,7 @@
 mod AnswerLemmas
 pub mod Judging
+pub mod ClearLines
+pub mod GrownLists
 mod HeldLines
 mod LentHits
 pub mod LinesTurned
@@ -21,4 +23,6 @@ mod StretchLemmas
 pub mod TurnLemmas
 pub mod TurnLineLemmas
 pub mod TurnJumps
+mod TurnLists
 pub mod TurnPasses
+pub mod TurnRecords

@@ -1,5 +1,5 @@
 -- The error lines of turns that repeat: those of a turn, moved to earlier detectors.
-use Rattle.std.proofs.Common.{◌≡◌, ℕ, zero, suc, ◌+◌, ◌-◌, ◌*◌, ◌<◌, ◌≤◌, ◌==◌, ◌&&◌, Bool, true, false, if◌then◌else◌, List, [], ◌∷◌, ◌++◌, map, length, drop, Option, None, Some, refl, ap, ap₂, sym, ◌∙◌, append-nil, arith}
+use Rattle.std.proofs.Common.{◌≡◌, ℕ, zero, suc, ◌+◌, ◌-◌, ◌*◌, ◌<◌, ◌≤◌, ◌==◌, ◌&&◌, Bool, true, false, if◌then◌else◌, List, [], ◌∷◌, ◌++◌, map, length, drop, Option, None, Some, refl, ap, ap₂, sym, ◌∙◌, append-nil, subst, arith}
 use Rattle.std.specs.Prelude.{All, filter, option_map}
 use Rattle.std.specs.List.{flat_map, range_with_len}
 use Rattle.std.specs.Option.{option_to_list}
@@ -14,11 +14,14 @@ use Rattle.step_model.specs.Sensitivities.{Sensitivity, record_counts}
 use Rattle.step_model.specs.Targets.{targets_of}
 use Rattle.step_model.specs.WellFormed.{step_faults}
 use Rattle.programs.specs.Turns.{moved_recorded, moved_step}
-use Rattle.backward.specs.private.MovedTargets.{later_target, moved_list}
+use Rattle.std.proofs.lemmas.List.Elements.{All-cons, All-head, All-nil, All-tail}
+use Rattle.backward.specs.declared.moved.Shift.{Shift}
+use Rattle.backward.specs.private.MovedTargets.{IsShiftOf, is_within, later_target, moved_list, window_end}
+use Rattle.backward.proofs.GrownLists.{in_low, later_stays}
 use Rattle.backward.specs.private.Stretches.{first_lines, hit_at, line_at, line_for, lines_at, lines_between}
 use Rattle.backward.specs.private.TurnLines.{moved_error_lines, turn_lines}
 use Rattle.backward.proofs.PassLines.{lines_between-more, lines_between-none, lines_between-parts}
-use Rattle.backward.proofs.MovedFilters.{filter-later}
+use Rattle.backward.proofs.MovedFilters.{filter_alike, filter-clear}
 use Rattle.backward.proofs.TurnLemmas.{CountsAlike, front, sens, silent_beyond, step_of}
 use Rattle.backward.proofs.TurnLineLemmas.{moved_error_lines-append}
 
@@ -95,10 +98,6 @@ never_hit program f (Collapse c r) s word records = ap (λ b. is_recorded_flip f
 never_hit program f (Fault g) s word records = ap (λ b. g == f && b) (ap (λ w. anticommute w (fault_word program f)) word ∙ anticommute_of_none program.qubits (fault_word program f)) ∙ and_never (g == f)
 never_hit program f (Feedback w r) s word records = refl
 
-filter_alike : (p q : ℕ → Bool) → ((d : ℕ) → p d ≡ q d) → (xs : List ℕ) → filter p xs ≡ filter q xs
-filter_alike p q same [] = refl
-filter_alike p q same (x ∷ xs) = ap₂ (λ (b : Bool) ys. if b then x ∷ ys else ys) (same x) (filter_alike p q same xs)
-
 -- ---- the lines of a step, by those of the step a period later
 faults_moved : (records faults : ℕ) (step : ListedStep) → step_faults (moved_step records faults step) ≡ map (λ f. f + faults) (step_faults step)
 faults_moved records faults (One gate q) = refl
@@ -112,18 +111,18 @@ faults_moved records faults (Collapse c (Some r)) = flips r.flip
 faults_moved records faults (Fault f) = refl
 faults_moved records faults (Feedback w r) = refl
 
-module _ (program : Listing) (records faults by period : ℕ) where
-  abbrev detectors : ℕ
-  detectors = length program.detectors
+unmapped : {X Y : Type 0} (g : X → Y) (P : Y → Type 0) (xs : List X) → All P (map g xs) → All (λ x. P (g x)) xs
+unmapped g P [] all = All-nil (λ x. P (g x))
+unmapped g P (x ∷ xs) all = All-cons (λ x. P (g x)) x xs (All-head P (g x) (map g xs) all) (unmapped g P xs (All-tail P (g x) (map g xs) all))
 
-  abbrev targets : ℕ
-  targets = length (targets_of program)
+-- no fault of a step hits one of the first targets that stay
+abbrev pub IsClearAt : Listing → Shift → ℕ → Type 0
+IsClearAt program s k =
+    All (λ f. (w : ℕ) → is_within s.staying (window_end s) w ≡ true → hits_at program f (step_of program k) (sens program (k + 1) w) ≡ false) (step_faults (step_of program k))
 
+module _ (program : Listing) (records faults period : ℕ) (s : Shift) (shift : IsShiftOf (length program.detectors) (length (targets_of program)) s) where
   abbrev later : ℕ → ℕ
-  later d = later_target detectors targets by d
-
-  few : detectors ≤ targets
-  few = let long = length-append program.detectors program.observables in omega (arith, long)
+  later d = later_target s d
 
   module _ (k : ℕ) (within : k + period < length program.steps) (moved : step_of program (k + period) ≡ moved_step records faults (step_of program k))
       (words : (d : ℕ) → (sens program (k + 1) d).word ≡ (sens program (k + period + 1) (later d)).word)
@@ -131,48 +130,69 @@ module _ (program : Listing) (records faults by period : ℕ) where
     abbrev step : ListedStep
     step = step_of program k
 
-    hit_alike : (f : ℕ) → FaultAlike program faults f
-        → hit_at program step (drop (k + 1) program.steps) f ≡ moved_list detectors by (hit_at program (moved_step records faults step) (drop (k + period + 1) program.steps) (f + faults))
-    hit_alike f alike =
-        filter_alike (λ d. hits_at program f step (sens program (k + 1) d)) (λ d. there (later d)) (λ d. hits_alike program records faults f step (sens program (k + 1) d) (sens program (k + period + 1) (later d)) alike (words d) (counted d)) (range_with_len 0 targets)
-        ∙ filter-later detectors targets by there few never
+    -- a fault that hits none of them here, by those that it hits a turn later
+    abbrev IsClearLater : ℕ → Type 0
+    IsClearLater f = (w : ℕ) → is_within s.staying (window_end s) w ≡ true → hits_at program (f + faults) (moved_step records faults step) (sens program (k + period + 1) w) ≡ false
+
+    clear_here : (f : ℕ) → FaultAlike program faults f → IsClearLater f → (w : ℕ) → is_within s.staying (window_end s) w ≡ true → hits_at program f step (sens program (k + 1) w) ≡ false
+    clear_here f alike clear w inside =
+        hits_alike program records faults f step (sens program (k + 1) w) (sens program (k + period + 1) (later w)) alike (words w) (counted w)
+        ∙ (ap (λ d. hits_at program (f + faults) (moved_step records faults step) (sens program (k + period + 1) d)) (later_stays s w (in_low s.staying (window_end s) w inside)) ∙ clear w inside)
+
+    hit_alike : (f : ℕ) → FaultAlike program faults f → IsClearLater f
+        → hit_at program step (drop (k + 1) program.steps) f ≡ moved_list s.staying s.by (hit_at program (moved_step records faults step) (drop (k + period + 1) program.steps) (f + faults))
+    hit_alike f alike clear =
+        filter_alike (λ d. hits_at program f step (sens program (k + 1) d)) (λ d. there (later d)) (λ d. hits_alike program records faults f step (sens program (k + 1) d) (sens program (k + period + 1) (later d)) alike (words d) (counted d)) (range_with_len 0 (length (targets_of program)))
+        ∙ subst (λ n. filter (λ d. there (later d)) (range_with_len 0 n) ≡ moved_list s.staying s.by (filter there (range_with_len 0 n))) shift.targets_is
+        (filter-clear s there shift.within shift.few (subst (λ n. there n ≡ false) (sym shift.targets_is) never) clear)
       where
         there : ℕ → Bool
         there d = hits_at program (f + faults) (moved_step records faults step) (sens program (k + period + 1) d)
 
-        never : there targets ≡ false
+        never : there (length (targets_of program)) ≡ false
         never =
+            let targets = length (targets_of program) in
             let silent = silent_beyond program (k + period + 1) targets (omega arith) in
             never_hit program (f + faults) (moved_step records faults step) (sens program (k + period + 1) targets) (ap (λ s. s.word) silent) (ap (λ s. s.records) silent)
 
-    line_alike : (f : ℕ) → FaultAlike program faults f
-        → line_at program step (drop (k + 1) program.steps) f ≡ moved_error_lines detectors by (line_at program (moved_step records faults step) (drop (k + period + 1) program.steps) (f + faults))
-    line_alike f alike =
-        ap₂ line_for (sym alike.text) (hit_alike f alike)
-        ∙ sym (moved_line_for detectors by (fault_at program (f + faults)).text (hit_at program (moved_step records faults step) (drop (k + period + 1) program.steps) (f + faults)))
+    line_alike : (f : ℕ) → FaultAlike program faults f → IsClearLater f
+        → line_at program step (drop (k + 1) program.steps) f ≡ moved_error_lines s.staying s.by (line_at program (moved_step records faults step) (drop (k + period + 1) program.steps) (f + faults))
+    line_alike f alike clear =
+        ap₂ line_for (sym alike.text) (hit_alike f alike clear)
+        ∙ sym (moved_line_for s.staying s.by (fault_at program (f + faults)).text (hit_at program (moved_step records faults step) (drop (k + period + 1) program.steps) (f + faults)))
 
-    each_alike : (fs : List ℕ) → All (FaultAlike program faults) fs
+    each_alike : (fs : List ℕ) → All (FaultAlike program faults) fs → All IsClearLater fs
         → flat_map (line_at program step (drop (k + 1) program.steps)) fs
-        ≡ moved_error_lines detectors by (flat_map (line_at program (moved_step records faults step) (drop (k + period + 1) program.steps)) (map (λ f. f + faults) fs))
-    each_alike [] alike = refl
-    each_alike (f ∷ fs) alike =
-        ap₂ (λ xs ys. xs ++ ys) (line_alike f (alike 0 0 (omega arith))) (each_alike fs (λ i d lt. alike (suc i) d (omega (arith, lt))))
-        ∙ sym (moved_error_lines-append detectors by (line_at program (moved_step records faults step) (drop (k + period + 1) program.steps) (f + faults)) (flat_map (line_at program (moved_step records faults step) (drop (k + period + 1) program.steps)) (map (λ f. f + faults) fs)))
+        ≡ moved_error_lines s.staying s.by (flat_map (line_at program (moved_step records faults step) (drop (k + period + 1) program.steps)) (map (λ f. f + faults) fs))
+    each_alike [] alike clear = refl
+    each_alike (f ∷ fs) alike clear =
+        ap₂ (λ xs ys. xs ++ ys) (line_alike f (alike 0 0 (omega arith)) (clear 0 0 (omega arith))) (each_alike fs (λ i d lt. alike (suc i) d (omega (arith, lt))) (λ i d lt. clear (suc i) d (omega (arith, lt))))
+        ∙ sym (moved_error_lines-append s.staying s.by (line_at program (moved_step records faults step) (drop (k + period + 1) program.steps) (f + faults)) (flat_map (line_at program (moved_step records faults step) (drop (k + period + 1) program.steps)) (map (λ f. f + faults) fs)))
 
-    pub lines_alike : All (FaultAlike program faults) (step_faults step) → lines_at program k ≡ moved_error_lines detectors by (lines_at program (k + period))
-    lines_alike alike =
+    clear_later : IsClearAt program s (k + period) → All IsClearLater (step_faults step)
+    clear_later clear =
+        let there : All (λ g. (w : ℕ) → is_within s.staying (window_end s) w ≡ true → hits_at program g (moved_step records faults step) (sens program (k + period + 1) w) ≡ false) (map (λ f. f + faults) (step_faults step)) =
+        subst (λ fs. All (λ g. (w : ℕ) → is_within s.staying (window_end s) w ≡ true → hits_at program g (moved_step records faults step) (sens program (k + period + 1) w) ≡ false) fs) (faults_moved records faults step)
+        (subst (λ other. All (λ g. (w : ℕ) → is_within s.staying (window_end s) w ≡ true → hits_at program g other (sens program (k + period + 1) w) ≡ false) (step_faults other)) moved clear) in
+        unmapped (λ f. f + faults) (λ g. (w : ℕ) → is_within s.staying (window_end s) w ≡ true → hits_at program g (moved_step records faults step) (sens program (k + period + 1) w) ≡ false) (step_faults step) there
+
+    pub clear_alike : All (FaultAlike program faults) (step_faults step) → IsClearAt program s (k + period) → IsClearAt program s k
+    clear_alike alike clear i d lt = clear_here _ (alike i d lt) (clear_later clear i d lt)
+
+    pub lines_alike : All (FaultAlike program faults) (step_faults step) → IsClearAt program s (k + period) → lines_at program k ≡ moved_error_lines s.staying s.by (lines_at program (k + period))
+    lines_alike alike clear =
         ap (first_lines program) (front program k (omega (arith, within)))
-        ∙ (each_alike (step_faults step) alike
-        ∙ ap (moved_error_lines detectors by)
+        ∙ (each_alike (step_faults step) alike (clear_later clear)
+        ∙ ap (moved_error_lines s.staying s.by)
         (ap (flat_map (line_at program (moved_step records faults step) (drop (k + period + 1) program.steps))) (sym (faults_moved records faults step))
         ∙ (ap (λ s. flat_map (line_at program s (drop (k + period + 1) program.steps)) (step_faults s)) (sym moved)
         ∙ sym (ap (first_lines program) (front program (k + period) within)))))
 
 -- ---- the lines of a stretch
-module _ (program : Listing) (by from to period : ℕ)
-    (alike : (k : ℕ) → from ≤ k → k < to → lines_at program k ≡ moved_error_lines (length program.detectors) by (lines_at program (k + period))) where
+module _ (program : Listing) (staying by from to period : ℕ)
+    (alike : (k : ℕ) → from ≤ k → k < to → lines_at program k ≡ moved_error_lines staying by (lines_at program (k + period))) where
   abbrev moved : ℕ → List ErrorLine → List ErrorLine
-  moved n lines = moved_error_lines (length program.detectors) n lines
+  moved n lines = moved_error_lines staying n lines
 
   stretch_alike : (n a : ℕ) → from ≤ a → a + n ≤ to → lines_between program a (a + n) ≡ moved by (lines_between program (a + period) (a + period + n))
   stretch_alike zero a le most =
@@ -189,7 +209,7 @@ module _ (program : Listing) (by from to period : ℕ)
       ∙ (ap₂ (λ xs ys. xs ++ ys) (alike a le (omega (arith, most)))
       (ap (lines_between program (a + 1)) (sym here)
       ∙ (stretch_alike n (a + 1) (omega (arith, le)) (omega (arith, most)) ∙ ap₂ (λ i j. moved by (lines_between program i j)) next there))
-      ∙ (sym (moved_error_lines-append (length program.detectors) by (lines_at program (a + period)) rest)
+      ∙ (sym (moved_error_lines-append staying by (lines_at program (a + period)) rest)
       ∙ ap (moved by) (sym (lines_between-more program (a + period) (a + period + suc n) (omega arith)))))
 
   turn_alike : (j : ℕ) → from + suc j * period ≤ to → lines_between program (to - suc j * period) (to - j * period) ≡ moved (suc j * by) (lines_between program to (to + period))
@@ -214,9 +234,9 @@ module _ (program : Listing) (by from to period : ℕ)
       ∙ (stretch_alike period a (omega (arith, le)) (omega (arith, le, more))
       ∙ (ap₂ (λ i k. moved by (lines_between program i k)) (sym end) later_end
       ∙ (ap (moved by) (turn_alike j (omega (arith, le, more)))
-      ∙ (moved_lines_twice (length program.detectors) by (suc j * by) (lines_between program to (to + period)) ∙ ap (λ n. moved n (lines_between program to (to + period))) sum))))
+      ∙ (moved_lines_twice staying by (suc j * by) (lines_between program to (to + period)) ∙ ap (λ n. moved n (lines_between program to (to + period))) sum))))
 
-  pub turns_alike : (j : ℕ) → from + j * period ≤ to → lines_between program (to - j * period) to ≡ turn_lines (length program.detectors) by j (lines_between program to (to + period))
+  pub turns_alike : (j : ℕ) → from + j * period ≤ to → lines_between program (to - j * period) to ≡ turn_lines staying by j (lines_between program to (to + period))
   turns_alike zero le = let none : to - 0 * period ≡ to = omega arith in ap (λ k. lines_between program k to) none ∙ lines_between-none program to
   turns_alike (suc j) le =
       let more : suc j * period ≡ j * period + period = omega arith in

@@ -1,9 +1,16 @@
 -- Lists of the targets that pass a test, moved to detectors that are some number earlier.
-use Rattle.std.proofs.Common.{◌≡◌, ℕ, zero, suc, ◌+◌, ◌-◌, ◌<◌, ◌≤◌, nat_lt, Bool, true, false, cond, List, ◌∷◌, refl, ap, ap₂, sym, inl, inr, ◌∙◌, arith}
+use Rattle.std.proofs.Common.{◌≡◌, ℕ, zero, suc, ◌+◌, ◌-◌, ◌<◌, ◌≤◌, nat_lt, Bool, true, false, cond, List, [], ◌∷◌, refl, ap, ap₂, sym, inl, inr, ◌∙◌, arith}
 use Rattle.std.specs.Prelude.{filter, if◌then◌else◌}
 use Rattle.std.specs.List.{range_with_len}
-use Rattle.std.proofs.lemmas.Bool.{cases_lt, le-ltb, lt-ltb}
-use Rattle.backward.specs.private.MovedTargets.{later_target, moved_list}
+use Rattle.std.proofs.lemmas.Bool.{cases_lt, le-ltb, lt-ltb, ltb-false, ltb-true}
+use Rattle.backward.specs.declared.moved.Shift.{Shift}
+use Rattle.backward.specs.private.MovedTargets.{is_within, later_target, moved_list, window_end}
+use Rattle.backward.proofs.GrownLists.{is_in}
+use Rattle.std.proofs.Math.Nat.{le-min}
+
+-- detectors that all move
+abbrev pub plain : ℕ → ℕ → ℕ → Shift
+plain detectors targets by = record { by = by; staying = detectors; detectors = detectors; targets = targets }
 
 -- ---- the first target of a list, where it goes away, where it is moved and where it stays
 first_by : (detectors by t : ℕ) (ts : List ℕ) (b c : Bool) → nat_lt t detectors ≡ b → nat_lt t by ≡ c
@@ -27,10 +34,10 @@ first_stays detectors by t ts false here = refl
 -- ---- the later targets of a range that pass a test, from its end on
 -- whether the later one passes
 abbrev later_test : (detectors targets by : ℕ) (test : ℕ → Bool) → ℕ → Bool
-later_test detectors targets by test d = test (later_target detectors targets by d)
+later_test detectors targets by test d = test (later_target (plain detectors targets by) d)
 
 module _ (detectors targets by : ℕ) (test : ℕ → Bool) (none : test targets ≡ false) where
-  later_by : (d : ℕ) (b c : Bool) → nat_lt d detectors ≡ b → nat_lt (d + by) detectors ≡ c → later_target detectors targets by d ≡ (if b then (if c then d + by else targets) else d)
+  later_by : (d : ℕ) (b c : Bool) → nat_lt d detectors ≡ b → nat_lt (d + by) detectors ≡ c → later_target (plain detectors targets by) d ≡ (if b then (if c then d + by else targets) else d)
   later_by d b c p q = ap₂ (λ b c. if b then (if c then d + by else targets) else d) p q
 
   -- observables stay
@@ -92,7 +99,7 @@ module _ (detectors targets by : ℕ) (test : ℕ → Bool) (none : test targets
 
 -- the targets whose later ones pass a test are those that pass it, moved to be as much earlier
 pub filter-later : (detectors targets by : ℕ) (test : ℕ → Bool) → detectors ≤ targets → test targets ≡ false
-    → filter (λ d. test (later_target detectors targets by d)) (range_with_len 0 targets) ≡ moved_list detectors by (filter test (range_with_len 0 targets))
+    → filter (λ d. test (later_target (plain detectors targets by) d)) (range_with_len 0 targets) ≡ moved_list detectors by (filter test (range_with_len 0 targets))
 filter-later detectors targets by test few none =
     let rest : ℕ = targets - detectors in
     elim (cases_lt detectors by) [
@@ -110,3 +117,35 @@ filter-later detectors targets by test few none =
           ∙ (later-first detectors targets by test none 0 (detectors - by) rest (omega (arith, within))
           ∙ (sym (gone-first detectors targets by test none 0 by ((detectors - by) + rest) (omega arith) (omega (arith, within))) ∙ ap (λ n. moved_list detectors by (filter test (range_with_len 0 n))) (sym first)))
     ]
+
+-- where none of the first that stay passes, nor a number that no target has
+pub filter_alike : (p q : ℕ → Bool) → ((d : ℕ) → p d ≡ q d) → (xs : List ℕ) → filter p xs ≡ filter q xs
+filter_alike p q same [] = refl
+filter_alike p q same (x ∷ xs) = ap₂ (λ (b : Bool) ys. if b then x ∷ ys else ys) (same x) (filter_alike p q same xs)
+
+pub filter-clear : (s : Shift) (test : ℕ → Bool) → s.staying ≤ s.detectors → s.detectors ≤ s.targets → test s.targets ≡ false → ((w : ℕ) → is_within s.staying (window_end s) w ≡ true → test w ≡ false)
+    → filter (λ d. test (later_target s d)) (range_with_len 0 s.targets) ≡ moved_list s.staying s.by (filter test (range_with_len 0 s.targets))
+filter-clear s test within few none clear =
+    filter_alike (λ d. test (later_target s d)) (λ d. test (later_target (plain s.staying s.targets s.by) d)) (λ d. same d (nat_lt d s.staying) (nat_lt (d + s.by) s.detectors) (nat_lt (d + s.by) s.staying) refl refl refl) (range_with_len 0 s.targets)
+    ∙ filter-later s.staying s.targets s.by test (omega (arith, within, few)) none
+  where
+    same : (d : ℕ) (a b c : Bool) → nat_lt d s.staying ≡ a → nat_lt (d + s.by) s.detectors ≡ b → nat_lt (d + s.by) s.staying ≡ c → test (later_target s d) ≡ test (later_target (plain s.staying s.targets s.by) d)
+    same d a b c p q r =
+        ap test (ap₂ (λ a b. if a then (if b then d + s.by else s.targets) else d) p q)
+        ∙ (chosen d a b c p q r ∙ sym (ap test (ap₂ (λ a c. if a then (if c then d + s.by else s.targets) else d) p r)))
+      where
+        chosen : (d : ℕ) (a b c : Bool) → nat_lt d s.staying ≡ a → nat_lt (d + s.by) s.detectors ≡ b → nat_lt (d + s.by) s.staying ≡ c
+            → test (if a then (if b then d + s.by else s.targets) else d) ≡ test (if a then (if c then d + s.by else s.targets) else d)
+        chosen d false b c p q r = refl
+        chosen d true true true p q r = refl
+        chosen d true false false p q r = refl
+        chosen d true true false p q r =
+            let lt = ltb-true d s.staying p in
+            let le = ltb-false (d + s.by) s.staying r in
+            let there = ltb-true (d + s.by) s.detectors q in
+            let inside : d + s.by < window_end s = le-min (omega (arith, lt)) there in
+            clear (d + s.by) (is_in s.staying (window_end s) (d + s.by) le inside) ∙ sym none
+        chosen d true false true p q r =
+            let past = ltb-false (d + s.by) s.detectors q in
+            let lt = ltb-true (d + s.by) s.staying r in
+            absurd (omega (arith, past, lt, within))

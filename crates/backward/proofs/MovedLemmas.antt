@@ -1,30 +1,18 @@
--- Targets moved to detectors that are some number earlier: what moved lists name, and the words that they stand for.
-use Rattle.std.proofs.Common.{◌≡◌, ℕ, zero, suc, ◌+◌, ◌-◌, ◌*◌, ◌<◌, ◌≤◌, nat_lt, Bool, true, false, List, [], ◌∷◌, ◌++◌, length, get_or, take, eqb, refl, ap, ap₂, sym, ◌∙◌, arith}
+-- Targets of some turns earlier: what their lists name, and the words that they stand for.
+use Rattle.std.proofs.Common.{◌≡◌, ℕ, zero, suc, ◌+◌, ◌-◌, ◌*◌, ◌<◌, ◌≤◌, nat_lt, Bool, true, false, List, [], ◌∷◌, ◌++◌, length, get_or, map, take, eqb, refl, ap, ap₂, sym, ◌∙◌, append_assoc, arith}
 use Rattle.std.specs.Prelude.{All, ◌||◌, if◌then◌else◌}
 use Rattle.std.proofs.lemmas.Bool.{ltb-true, ltb-false, ne_eqb}
 use Rattle.std.proofs.lemmas.Bool.Decides.{nat_tests}
-use Rattle.std.proofs.lemmas.List.{length-map, take_more}
+use Rattle.std.proofs.lemmas.List.{take_more}
 use Rattle.std.proofs.lemmas.List.Elements.{All-cons, All-head, All-map, All-tail, All-weaker}
 use Rattle.pauli_word.specs.Bits.{letter_of}
 use Rattle.pauli_word.specs.Parity.{exclusive_or}
 use Rattle.pauli_word.specs.Words.{no_letters}
 use Rattle.step_model.specs.Targets.{is_listed}
 use Rattle.trackers.specs.Tracked.{is_among, listed_word}
-use Rattle.backward.specs.private.MovedTargets.{later_target, moved_list, moved_lists}
-
--- ---- the target that is later
-pub later_later : (detectors targets by more d : ℕ) → detectors ≤ targets → later_target detectors targets by (later_target detectors targets more d) ≡ later_target detectors targets (by + more) d
-later_later detectors targets by more d few = grind (arith, nat_tests)
-
--- a detector that goes away is no later target
-gone_test : (detectors targets by t d : ℕ) → detectors ≤ targets → t < detectors → t < by → eqb t (later_target detectors targets by d) ≡ false
-gone_test detectors targets by t d few here gone = grind (arith, nat_tests)
-
-moved_test : (detectors targets by t d : ℕ) → detectors ≤ targets → t < detectors → by ≤ t → eqb (t - by) d ≡ eqb t (later_target detectors targets by d)
-moved_test detectors targets by t d few here stays = grind (arith, nat_tests)
-
-observable_test : (detectors targets by t d : ℕ) → detectors ≤ t → t < targets → eqb t d ≡ eqb t (later_target detectors targets by d)
-observable_test detectors targets by t d here within = grind (arith, nat_tests)
+use Rattle.backward.specs.declared.moved.Shift.{Shift}
+use Rattle.backward.specs.private.MovedTargets.{earlier_list, grown_list, grown_lists, is_within, later_target, later_turns, moved_list, picked}
+use Rattle.backward.proofs.GrownLists.{earlier_test, grown_test, is_in}
 
 -- ---- what a moved list names
 -- what holds where a target goes away, where it is moved and where it stays, holds by the tests of `moved_list`
@@ -37,41 +25,56 @@ moved_cases P detectors by t rest gone moved stays = by_tests (nat_lt t detector
     by_tests true false p q = moved (ltb-true t detectors p) (ltb-false t by q)
     by_tests false c p q = stays (ltb-false t detectors p)
 
--- a test of a list, put together from those of its targets by f
-module _ (f : Bool → Bool → Bool) (test : List ℕ → ℕ → Bool) (none : (d : ℕ) → test [] d ≡ false) (some : (t : ℕ) (ts : List ℕ) (d : ℕ) → test (t ∷ ts) d ≡ f (eqb t d) (test ts d)) (passed : (b : Bool) → f false b ≡ b) where
-  moved_tested : (detectors targets by d : ℕ) (ts : List ℕ) → detectors ≤ targets → All (λ t. t < targets) ts → test (moved_list detectors by ts) d ≡ test ts (later_target detectors targets by d)
-  moved_tested detectors targets by d [] few below = none d ∙ sym (none (later_target detectors targets by d))
-  moved_tested detectors targets by d (t ∷ ts) few below =
-      let later = later_target detectors targets by d in
-      let rest = moved_list detectors by ts in
-      let next : test rest d ≡ test ts later = moved_tested detectors targets by d ts few (All-tail (λ t. t < targets) t ts below) in
-      let within : t < targets = All-head (λ t. t < targets) t ts below in
-      moved_cases (λ l. test l d ≡ test (t ∷ ts) later) detectors by t rest
-      (λ here gone. next ∙ (sym (passed (test ts later)) ∙ (ap (λ b. f b (test ts later)) (sym (gone_test detectors targets by t d few here gone)) ∙ sym (some t ts later))))
-      (λ here stays. some (t - by) rest d ∙ (ap₂ f (moved_test detectors targets by t d few here stays) next ∙ sym (some t ts later)))
-      (λ here. some t rest d ∙ (ap₂ f (observable_test detectors targets by t d here within) next ∙ sym (some t ts later)))
-
-pub is_listed-moved_list : (detectors targets by d : ℕ) (ts : List ℕ) → detectors ≤ targets → All (λ t. t < targets) ts → is_listed (moved_list detectors by ts) d ≡ is_listed ts (later_target detectors targets by d)
-is_listed-moved_list = moved_tested exclusive_or is_listed (λ d. refl) (λ t ts d. refl) (λ b. refl)
-
 eqb-sym : (a b : ℕ) → eqb a b ≡ eqb b a
 eqb-sym a b = grind (arith, nat_tests)
 
-pub is_among-moved_list : (detectors targets by d : ℕ) (ts : List ℕ) → detectors ≤ targets → All (λ t. t < targets) ts → is_among (moved_list detectors by ts) d ≡ is_among ts (later_target detectors targets by d)
-is_among-moved_list = moved_tested (λ a b. a || b) is_among (λ d. refl) (λ t ts d. ap (λ b. b || is_among ts d) (eqb-sym d t)) (λ b. refl)
+-- ---- what lists some turns earlier name
+same_or : (a b c : Bool) → ((a || b) || c) ≡ (a || (b || c))
+same_or true b c = refl
+same_or false b c = refl
 
--- ---- the words that moved lists stand for
-pub listed_word-moved_lists : (detectors targets by d : ℕ) (lists : List (List ℕ)) → detectors ≤ targets → All (All (λ t. t < targets)) lists → listed_word (moved_lists detectors by lists) d ≡ listed_word lists (later_target detectors targets by d)
-listed_word-moved_lists detectors targets by d [] few below = refl
-listed_word-moved_lists detectors targets by d (x ∷ []) few below = refl
-listed_word-moved_lists detectors targets by d (x ∷ z ∷ lists) few below =
-    let P : List ℕ → Type 0 = All (λ t. t < targets) in
-    let rest = All-tail P x (z ∷ lists) below in
-    let letter =
-    ap₂ letter_of
-    (is_listed-moved_list detectors targets by d x few (All-head P x (z ∷ lists) below))
-    (is_listed-moved_list detectors targets by d z few (All-head P z lists rest)) in
-    ap₂ (λ a w. a ∷ w) letter (listed_word-moved_lists detectors targets by d lists few (All-tail P z lists rest))
+or_false : (b : Bool) → (b || false) ≡ b
+or_false true = refl
+or_false false = refl
+
+xor_false : (b : Bool) → exclusive_or b false ≡ b
+xor_false true = refl
+xor_false false = refl
+
+same_xor : (a b c : Bool) → exclusive_or (exclusive_or a b) c ≡ exclusive_or a (exclusive_or b c)
+same_xor true true true = refl
+same_xor true true false = refl
+same_xor true false true = refl
+same_xor true false false = refl
+same_xor false true c = refl
+same_xor false false c = refl
+
+module _ (s : Shift) (within : s.staying ≤ s.detectors) (few : s.detectors ≤ s.targets) where
+  pub is_among-earlier : (d : ℕ) (ts : List ℕ) → All (λ t. t < s.targets) ts → is_among (earlier_list s ts) d ≡ is_among ts (later_target s d)
+  is_among-earlier d ts below =
+      earlier_test s within few (λ a b. a || b) is_among (λ d. refl) (λ t ts d. ap (λ b. b || is_among ts d) (eqb-sym d t)) (λ b. refl) or_false same_or ts below d
+
+  is_listed-earlier : (d : ℕ) (ts : List ℕ) → All (λ t. t < s.targets) ts → is_listed (earlier_list s ts) d ≡ is_listed ts (later_target s d)
+  is_listed-earlier d ts below = earlier_test s within few exclusive_or is_listed (λ d. refl) (λ t ts d. refl) (λ b. refl) xor_false same_xor ts below d
+
+  is_listed-grown : (n d : ℕ) (ts : List ℕ) → All (λ t. t < s.targets) ts → is_listed (grown_list s n ts) d ≡ is_listed ts (later_turns s n d)
+  is_listed-grown n d ts below = grown_test s within few exclusive_or is_listed (λ d. refl) (λ t ts d. refl) (λ b. refl) xor_false same_xor ts below n d
+
+  -- ---- the words that they stand for
+  listed_word-as : (g : List ℕ → List ℕ) (d e : ℕ) → ((ts : List ℕ) → All (λ t. t < s.targets) ts → is_listed (g ts) d ≡ is_listed ts e) → (lists : List (List ℕ)) → All (All (λ t. t < s.targets)) lists
+      → listed_word (map g lists) d ≡ listed_word lists e
+  listed_word-as g d e same [] below = refl
+  listed_word-as g d e same (x ∷ []) below = refl
+  listed_word-as g d e same (x ∷ z ∷ lists) below =
+      let P : List ℕ → Type 0 = All (λ t. t < s.targets) in
+      let rest = All-tail P x (z ∷ lists) below in
+      ap₂ (λ a w. a ∷ w) (ap₂ letter_of (same x (All-head P x (z ∷ lists) below)) (same z (All-head P z lists rest))) (listed_word-as g d e same lists (All-tail P z lists rest))
+
+  pub listed_word-earlier : (d : ℕ) (lists : List (List ℕ)) → All (All (λ t. t < s.targets)) lists → listed_word (map (earlier_list s) lists) d ≡ listed_word lists (later_target s d)
+  listed_word-earlier d = listed_word-as (earlier_list s) d (later_target s d) (is_listed-earlier d)
+
+  pub listed_word-grown : (n d : ℕ) (lists : List (List ℕ)) → All (All (λ t. t < s.targets)) lists → listed_word (grown_lists s n lists) d ≡ listed_word lists (later_turns s n d)
+  listed_word-grown n d = listed_word-as (grown_list s n) d (later_turns s n d) (is_listed-grown n d)
 
 -- no list has a number beyond the targets
 pub not_listed : (targets d : ℕ) (ts : List ℕ) → targets ≤ d → All (λ t. t < targets) ts → is_listed ts d ≡ false
@@ -113,27 +116,28 @@ below-moved_list detectors targets by (t ∷ ts) below =
     (λ here stays. All-cons P (t - by) rest (omega (arith, within)) next)
     (λ here. All-cons P t rest within next)
 
-pub below-moved_lists : (detectors targets by : ℕ) (lists : List (List ℕ)) → All (All (λ t. t < targets)) lists → All (All (λ t. t < targets)) (moved_lists detectors by lists)
-below-moved_lists detectors targets by lists below =
-    let P : List ℕ → Type 0 = All (λ t. t < targets) in
-    All-map P (moved_list detectors by) lists (All-weaker P (λ ts. P (moved_list detectors by ts)) (below-moved_list detectors targets by) lists below)
+-- lists picked from, one target more
+picked-append : (low high by : ℕ) (xs ys : List ℕ) → picked low high by (xs ++ ys) ≡ picked low high by xs ++ picked low high by ys
+picked-append low high by [] ys = refl
+picked-append low high by (t ∷ ts) ys = by_test (picked-append low high by ts ys) (is_within low high t)
+  where
+    by_test : picked low high by (ts ++ ys) ≡ picked low high by ts ++ picked low high by ys → (b : Bool)
+        → (if b then (t - by) ∷ picked low high by (ts ++ ys) else picked low high by (ts ++ ys)) ≡ (if b then (t - by) ∷ picked low high by ts else picked low high by ts) ++ picked low high by ys
+    by_test next true = ap (λ l. (t - by) ∷ l) next
+    by_test next false = next
 
-pub length-moved_lists : (detectors by : ℕ) (lists : List (List ℕ)) → length (moved_lists detectors by lists) ≡ length lists
-length-moved_lists detectors by lists = length-map lists (moved_list detectors by)
+pub picked_more : (low high by i : ℕ) (ts us base : List ℕ) → i < length ts → us ≡ base ++ picked low high by (take i ts) → (vs : List ℕ) → vs ≡ picked low high by (get_or ts i 0 ∷ [])
+    → us ++ vs ≡ base ++ picked low high by (take (i + 1) ts)
+picked_more low high by i ts us base within so_far vs one =
+    ap₂ (λ a b. a ++ b) so_far one
+    ∙ (append_assoc base (picked low high by (take i ts)) (picked low high by (get_or ts i 0 ∷ []))
+    ∙ ap (λ l. base ++ l) (sym (picked-append low high by (take i ts) (get_or ts i 0 ∷ [])) ∙ ap (picked low high by) (sym (take_more ts i 0 within))))
 
--- nothing moves by 0
-pub moved_list-by_0 : (detectors : ℕ) (ts : List ℕ) → moved_list detectors 0 ts ≡ ts
-moved_list-by_0 detectors [] = refl
-moved_list-by_0 detectors (t ∷ ts) =
-    let next = moved_list-by_0 detectors ts in
-    moved_cases (λ l. l ≡ t ∷ ts) detectors 0 t (moved_list detectors 0 ts)
-    (λ here gone. absurd (omega (arith, gone)))
-    (λ here stays. let same : t - 0 ≡ t = omega arith in ap₂ (λ (u : ℕ) l. u ∷ l) same next)
-    (λ here. ap (λ l. t ∷ l) next)
+pub picked_one : (low high by t : ℕ) → low ≤ t → t < high → (t - by) ∷ [] ≡ picked low high by (t ∷ [])
+picked_one low high by t le lt = sym (ap (λ b. if b then (t - by) ∷ [] else []) (is_in low high t le lt))
 
-pub moved_lists-by_0 : (detectors : ℕ) (lists : List (List ℕ)) → moved_lists detectors 0 lists ≡ lists
-moved_lists-by_0 detectors [] = refl
-moved_lists-by_0 detectors (ts ∷ lists) = ap₂ (λ l rest. l ∷ rest) (moved_list-by_0 detectors ts) (moved_lists-by_0 detectors lists)
+pub picked_none : (low high by t : ℕ) → is_within low high t ≡ false → [] ≡ picked low high by (t ∷ [])
+picked_none low high by t out = sym (ap (λ b. if b then (t - by) ∷ [] else []) out)
 
 -- lists joined
 pub moved_list-append : (detectors by : ℕ) (xs ys : List ℕ) → moved_list detectors by (xs ++ ys) ≡ moved_list detectors by xs ++ moved_list detectors by ys

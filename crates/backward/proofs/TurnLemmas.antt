@@ -1,10 +1,12 @@
--- Turns of a block that repeat: where the words at a place are those of the same place one turn later, moved to earlier detectors, so
--- they are at each place before it whose steps are those a turn later and whose records' lists are moved too.
-use Rattle.std.proofs.Common.{◌≡◌, ℕ, zero, suc, ◌+◌, ◌-◌, ◌<◌, ◌≤◌, Bool, true, false, if◌then◌else◌, List, [], ◌∷◌, length, drop, get_or, Option, None, Some, refl, ap, ap₂, subst, sym, ◌∙◌, arith}
+-- Turns of a block that repeat: where the words at a place are those of the same place one turn later, moved to earlier detectors, and
+-- so are the lists of the records before it, both are so at each place before it whose steps are those a turn later.
+use Rattle.std.proofs.Common.{◌≡◌, ℕ, zero, suc, ◌+◌, ◌-◌, ◌<◌, ◌≤◌, eqb, Bool, true, false, if◌then◌else◌, List, [], ◌∷◌, length, drop, get_or, Option, None, Some, refl, ap, ap₂, subst, sym, ◌∙◌, arith}
 use Rattle.std.specs.Prelude.{⊤, option_map}
+use Rattle.std.proofs.lemmas.Bool.Decides.{nat_tests}
 use Rattle.std.proofs.lemmas.List.{drop_more, get_or_past}
 use Rattle.std.proofs.lemmas.Option.{get_or_from_slice_get, slice_get-get_or}
 use Rattle.pauli_word.specs.declared.letter.Letter.TheVariants.{I}
+use Rattle.pauli_word.specs.Parity.{exclusive_or}
 use Rattle.pauli_word.specs.Words.{anticommute, no_letters, signed}
 use Rattle.pauli_word.proofs.WordLaws.{anticommute_of_none}
 use Rattle.gate_table.proofs.WordImageLaws.{image_at-none, none_set}
@@ -12,10 +14,12 @@ use Rattle.gate_table.proofs.PairImageLaws.{image_at_two-none}
 use Rattle.gate_table.specs.Images.{inverse_of}
 use Rattle.step_model.specs.Listing.{Listing, ListedStep, One, Two, Collapse, Fault, Feedback, Measured, Word, Reset, Recorded, measured_word}
 use Rattle.step_model.specs.Sensitivities.{Sensitivity, sensitivity, sensitivity_before, cleared, collapse_word, latest_place, later_or_here, multiplied, record_counts}
-use Rattle.step_model.specs.Targets.{target_at, targets_of}
+use Rattle.step_model.specs.Targets.{is_listed, target_at, targets_of}
+use Rattle.step_model.specs.WellFormed.{IsWellFormed}
 use Rattle.programs.specs.Turns.{Repeat, moved_recorded, moved_step}
-use Rattle.programs.specs.Walks.{is_feedback}
+use Rattle.backward.specs.private.Passes.{IsStepAt, records_before}
 use Rattle.backward.specs.private.Repeats.{NonePlaced}
+use Rattle.backward.proofs.PassRecords.{record_there, records_before-earlier, records_before-more}
 use Rattle.gate_table.specs.WordImages.{preimage_at, preimage_at_two}
 
 -- ---- a target with no records: no fault flips it
@@ -65,18 +69,26 @@ collapse_word_moved n records faults (Collapse c r) = refl
 collapse_word_moved n records faults (Fault f) = refl
 collapse_word_moved n records faults (Feedback w r) = refl
 
-pub feedback_moved : (records faults : ℕ) (o : Option ListedStep) → is_feedback (option_map (moved_step records faults) o) ≡ is_feedback o
-feedback_moved records faults None = refl
-feedback_moved records faults (Some (One gate q)) = refl
-feedback_moved records faults (Some (Two gate a b)) = refl
-feedback_moved records faults (Some (Collapse c r)) = refl
-feedback_moved records faults (Some (Fault f)) = refl
-feedback_moved records faults (Some (Feedback w r)) = refl
-
 none_here : (step : ListedStep) (o : Option ℕ) (b : Bool) → later_or_here step o b ≡ None → (o ≡ None) × (b ≡ false)
 none_here step (Some k) b e = absurd cc
 none_here step None true e = absurd cc
 none_here step None false e = (refl, refl)
+
+-- ---- one step, where a record is listed alike
+both_moved : (q r records : ℕ) → eqb q r ≡ eqb (q + records) (r + records)
+both_moved q r records = grind (arith, nat_tests)
+
+listed_alike : (n records faults : ℕ) (step : ListedStep) (s t : Sensitivity) (r : ℕ) → s.word ≡ t.word → is_listed s.records r ≡ is_listed t.records (r + records)
+    → is_listed (sensitivity_before n step s).records r ≡ is_listed (sensitivity_before n (moved_step records faults step) t).records (r + records)
+listed_alike n records faults (One gate q) s t r e alike = alike
+listed_alike n records faults (Two gate a b) s t r e alike = alike
+listed_alike n records faults (Collapse c o) s t r e alike = alike
+listed_alike n records faults (Fault f) s t r e alike = alike
+listed_alike n records faults (Feedback w q) s t r e alike = ap (λ v. is_listed (if anticommute v w then q ∷ s.records else s.records) r) e ∙ fed (anticommute t.word w)
+  where
+    fed : (b : Bool) → is_listed (if b then q ∷ s.records else s.records) r ≡ is_listed (if b then (q + records) ∷ t.records else t.records) (r + records)
+    fed true = ap₂ exclusive_or (both_moved q r records) alike
+    fed false = alike
 
 -- ---- places of a program
 module _ (program : Listing) where
@@ -119,27 +131,79 @@ module _ (program : Listing) where
     abbrev pub AlikeAt : ℕ → Type 0
     AlikeAt k = (d : ℕ) → (sens k d).word ≡ (sens (k + period) (later d)).word
 
-    abbrev pub CountedAlike : Type 0
-    CountedAlike = (k : ℕ) → from ≤ k → k < to → (d : ℕ) → CountsAlike records faults (step_of k) (sens (k + 1) d).records (sens (k + period + 1) (later d)).records
+    -- the lists of the records before a place, from a number on
+    abbrev pub ListedAt : ℕ → ℕ → Type 0
+    ListedAt low k = (d r : ℕ) → low ≤ r → r < records_before program k → is_listed (sens k d).records r ≡ is_listed (sens (k + period) (later d)).records (r + records)
 
-    module _ (counted : CountedAlike) (first : AlikeAt to) where
-      alike_front : (k : ℕ) → from ≤ k → k < to → AlikeAt (k + 1) → AlikeAt k
-      alike_front k le lt h d =
+    module _ (low : ℕ) (fits : IsWellFormed program) (lowest : low ≤ records_before program from) (first : AlikeAt to) (listed : ListedAt low to) where
+      counted_here : (k : ℕ) → from ≤ k → k < to → ListedAt low (k + 1) → (d : ℕ) → CountsAlike records faults (step_of k) (sens (k + 1) d).records (sens (k + period + 1) (later d)).records
+      counted_here k le lt h d = by_step (step_of k) refl
+        where
+          by_record : (c : Measured) (o : Option Recorded) → step_of k ≡ Collapse c o → record_counts (sens (k + 1) d).records o ≡ record_counts (sens (k + period + 1) (later d)).records (option_map (moved_recorded records faults) o)
+          by_record c None is = refl
+          by_record c (Some r) is = h d r.number (omega (arith, lowest, up, number)) (omega (arith, one, number)) ∙ ap (λ j. is_listed (sens j (later d)).records (r.number + records)) next
+            where
+              within : to + period ≤ length program.steps
+              within = repeat.within
+
+              at : IsStepAt program k (Collapse c (Some r))
+              at = front k (omega (arith, lt, within)) ∙ ap (λ step. step ∷ drop (k + 1) program.steps) is
+
+              number : r.number ≡ records_before program k
+              number = record_there program k c r fits at
+
+              one : records_before program (k + 1) ≡ records_before program k + 1
+              one = records_before-more program k (Collapse c (Some r)) at
+
+              up : records_before program from ≤ records_before program k
+              up = records_before-earlier program from k le
+
+              next : k + 1 + period ≡ k + period + 1
+              next = omega arith
+
+          by_step : (step : ListedStep) → step_of k ≡ step → CountsAlike records faults step (sens (k + 1) d).records (sens (k + period + 1) (later d)).records
+          by_step (One gate q) is = tt
+          by_step (Two gate a b) is = tt
+          by_step (Collapse c o) is = by_record c o is
+          by_step (Fault f) is = tt
+          by_step (Feedback w r) is = tt
+
+      words_front : (k : ℕ) → from ≤ k → k < to → AlikeAt (k + 1) → ListedAt low (k + 1) → AlikeAt k
+      words_front k le lt words lists d =
           let within = repeat.within in
           let next : k + 1 + period ≡ k + period + 1 = omega arith in
           ap (λ s. s.word) (sens_front k d (omega (arith, lt, within)))
-          ∙ step_alike program.qubits records faults (step_of k) (sens (k + 1) d) (sens (k + period + 1) (later d)) (h d ∙ ap (λ j. (sens j (later d)).word) next) (counted k le lt d)
+          ∙ step_alike program.qubits records faults (step_of k) (sens (k + 1) d) (sens (k + period + 1) (later d)) (words d ∙ ap (λ j. (sens j (later d)).word) next) (counted_here k le lt lists d)
           ∙ ap (λ step. (sensitivity_before program.qubits step (sens (k + period + 1) (later d))).word) (sym (moved_at k le lt))
           ∙ sym (ap (λ s. s.word) (sens_front (k + period) (later d) (omega (arith, lt, within))))
 
-      alike_from : (i : ℕ) → from + i ≤ to → AlikeAt (to - i)
-      alike_from zero le = let e : to ≡ to - 0 = omega arith in subst AlikeAt e first
-      alike_from (suc i) le =
+      lists_front : (k : ℕ) → from ≤ k → k < to → AlikeAt (k + 1) → ListedAt low (k + 1) → ListedAt low k
+      lists_front k le lt words lists d r above below =
+          let within = repeat.within in
+          let next : k + 1 + period ≡ k + period + 1 = omega arith in
+          let up = records_before-earlier program k (k + 1) (omega arith) in
+          ap (λ s. is_listed s.records r) (sens_front k d (omega (arith, lt, within)))
+          ∙ listed_alike program.qubits records faults (step_of k) (sens (k + 1) d) (sens (k + period + 1) (later d)) r (words d ∙ ap (λ j. (sens j (later d)).word) next)
+          (lists d r above (omega (arith, below, up)) ∙ ap (λ j. is_listed (sens j (later d)).records (r + records)) next)
+          ∙ ap (λ step. is_listed (sensitivity_before program.qubits step (sens (k + period + 1) (later d))).records (r + records)) (sym (moved_at k le lt))
+          ∙ sym (ap (λ s. is_listed s.records (r + records)) (sens_front (k + period) (later d) (omega (arith, lt, within))))
+
+      both_from : (i : ℕ) → from + i ≤ to → AlikeAt (to - i) × ListedAt low (to - i)
+      both_from zero le = let e : to ≡ to - 0 = omega arith in subst (λ k. AlikeAt k × ListedAt low k) e (first, listed)
+      both_from (suc i) le =
           let e : to - suc i + 1 ≡ to - i = omega (arith, le) in
-          alike_front (to - suc i) (omega (arith, le)) (omega (arith, le)) (subst AlikeAt (sym e) (alike_from i (omega (arith, le))))
+          let both : AlikeAt (to - suc i + 1) × ListedAt low (to - suc i + 1) = subst (λ k. AlikeAt k × ListedAt low k) (sym e) (both_from i (omega (arith, le))) in
+          (words_front (to - suc i) (omega (arith, le)) (omega (arith, le)) both.0 both.1, lists_front (to - suc i) (omega (arith, le)) (omega (arith, le)) both.0 both.1)
+
+      both_before : (k : ℕ) → from ≤ k → k ≤ to → AlikeAt k × ListedAt low k
+      both_before k le lt = let e : to - (to - k) ≡ k = omega (arith, lt) in subst (λ j. AlikeAt j × ListedAt low j) e (both_from (to - k) (omega (arith, le, lt)))
 
       pub alike_before : (k : ℕ) → from ≤ k → k ≤ to → AlikeAt k
-      alike_before k le lt = let e : to - (to - k) ≡ k = omega (arith, lt) in subst AlikeAt e (alike_from (to - k) (omega (arith, le, lt)))
+      alike_before k le lt = (both_before k le lt).0
+
+      -- each step's record is counted alike
+      pub counted_alike : (k : ℕ) → from ≤ k → k < to → (d : ℕ) → CountsAlike records faults (step_of k) (sens (k + 1) d).records (sens (k + period + 1) (later d)).records
+      counted_alike k le lt = counted_here k le lt (both_before (k + 1) (omega (arith, le)) (omega (arith, lt))).1
 
       none_front : (k : ℕ) → from ≤ k → k < to → 0 < period → NonePlaced program (k + 1) → NonePlaced program k
       none_front k le lt some none d =

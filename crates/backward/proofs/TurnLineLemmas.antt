@@ -3,15 +3,17 @@ use Rattle.std.proofs.Common.{◌≡◌, ℕ, suc, ◌+◌, ◌*◌, ◌<◌, �
 use Rattle.std.specs.Prelude.{All, Result, Ok, Err, OnOk, reverse}
 use Rattle.std.specs.List.{flat_map}
 use Rattle.std.proofs.lemmas.Grind.{flat_map-append}
-use Rattle.std.proofs.lemmas.List.{append-nil, reverse-append, take_more}
+use Rattle.std.proofs.lemmas.List.{append-nil, reverse-append, reverse-reverse, take_more}
 use Rattle.error_models.specs.HeldText.{Held, HoldsLines}
 use Rattle.error_models.specs.ModelText.{line_text}
 use Rattle.programs.specs.Kept.{KeptProgram, kept_at}
 use Rattle.step_model.specs.ErrorModels.{ErrorLine}
 use Rattle.step_model.specs.Targets.{targets_of}
-use Rattle.backward.specs.private.MovedTargets.{moved_list}
+use Rattle.std.proofs.lemmas.List.Elements.{All-append, All-cons, All-head, All-nil, All-tail}
+use Rattle.backward.specs.declared.moved.Shift.{Shift}
+use Rattle.backward.specs.private.MovedTargets.{IsClear, moved_list}
 use Rattle.backward.specs.private.Stretches.{Gives, line_for}
-use Rattle.backward.specs.private.TurnLines.{AreKeptLines, GivesTurns, KeptLines, kept_lines, moved_error_lines, turn_lines, turns_text}
+use Rattle.backward.specs.private.TurnLines.{AreClear, AreKeptLines, GivesTurns, KeptLines, kept_lines, moved_error_lines, turn_lines, turns_text}
 use Rattle.backward.proofs.LentHits.{line_for_some}
 use Rattle.backward.proofs.MovedLemmas.{below-moved_list}
 use Rattle.backward.proofs.PassLines.{reverse_line}
@@ -104,9 +106,26 @@ one_turn_more first old new detectors by low k lines before after =
     }
 
 -- the text of some of them stands before that of the rest
-pub text_of_turns : (kept : KeptLines) (by low k : ℕ) (old : List ErrorLine → Type 0) (held : Held) → GivesTurns old (HoldsLines held) (length kept.program.listing.detectors) by low k kept.lines → old [] → held.detectors ≡ length kept.program.listing.detectors
-    → held.text ++ turns_text kept by low ≡ turns_text kept by k
-text_of_turns kept by low k old held given none counted =
+pub text_of_turns : (kept : KeptLines) (staying by low k : ℕ) (old : List ErrorLine → Type 0) (held : Held) → GivesTurns old (HoldsLines held) staying by low k kept.lines → old [] → held.detectors ≡ length kept.program.listing.detectors
+    → held.text ++ turns_text kept staying by low ≡ turns_text kept staying by k
+text_of_turns kept staying by low k old held given none counted =
     let detectors : ℕ = length kept.program.listing.detectors in
-    ap (λ (l : List ℕ). l ++ turns_text kept by low) (given.gives [] none ∙ ap (λ (d : ℕ). flat_map (line_text d) (reverse given.more)) counted)
-    ∙ (sym (flat_map-append (line_text detectors) (reverse given.more) (turn_lines detectors by low (reverse kept.lines))) ∙ ap (flat_map (line_text detectors)) given.turns)
+    ap (λ (l : List ℕ). l ++ turns_text kept staying by low) (given.gives [] none ∙ ap (λ (d : ℕ). flat_map (line_text d) (reverse given.more)) counted)
+    ∙ (sym (flat_map-append (line_text detectors) (reverse given.more) (turn_lines staying by low (reverse kept.lines))) ∙ ap (flat_map (line_text detectors)) given.turns)
+
+-- lines are clear where their targets are
+pub clear-kept : (s : Shift) (program : KeptProgram) (entries : List ℕ) (lists : List (List ℕ)) → All (IsClear s) lists → AreClear s (kept_lines program entries lists)
+clear-kept s program [] lists clear = All-nil (λ (line : ErrorLine). IsClear s line.targets)
+clear-kept s program (entry ∷ entries) [] clear = All-nil (λ (line : ErrorLine). IsClear s line.targets)
+clear-kept s program (entry ∷ entries) (targets ∷ lists) clear =
+    All-cons (λ (line : ErrorLine). IsClear s line.targets) (record { text = (kept_at program entry).text; targets = targets }) (kept_lines program entries lists)
+    (All-head (IsClear s) targets lists clear) (clear-kept s program entries lists (All-tail (IsClear s) targets lists clear))
+
+all_reversed : {X : Type 0} (P : X → Type 0) (xs : List X) → All P xs → All P (reverse xs)
+all_reversed P [] all = all
+all_reversed P (x ∷ xs) all =
+    subst (All P) (sym (reverse-append (x ∷ []) xs)) (All-append P (reverse xs) (x ∷ []) (all_reversed P xs (All-tail P x xs all)) (All-cons P x [] (All-head P x xs all) (All-nil P)))
+
+pub clear-reverse : (s : Shift) (lines : List ErrorLine) → AreClear s (reverse lines) → AreClear s lines
+clear-reverse s lines clear =
+    subst (AreClear s) (reverse-reverse lines) (all_reversed (λ (line : ErrorLine). IsClear s line.targets) (reverse lines) clear)

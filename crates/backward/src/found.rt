@@ -83,6 +83,15 @@ impl<'s, A: Allocator + Copy> Found<'s, A> {
         !self.latest.is_empty()
     }
 
+    /// How many records' lists are held once steps are passed over, up to a place with so many records before it: the steps may
+    /// have fed later ones forward. Where lists are kept, they have no feedback.
+    pub(crate) fn known_at(&self, records: usize) -> usize
+        ensures kept { self.now.keeps ≡ true → result ≡ self.now.known }
+        ensures fewer { self.now.keeps ≡ false → result ≡ records }
+    {
+        if self.keeps { self.known } else { records }
+    }
+
     /// Notes the targets that a collapse of a product of letters is the latest place of, unless the lists are settled.
     #[inline(always)]
     pub(crate) fn judge<T: Tracker>(

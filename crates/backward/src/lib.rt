@@ -13,6 +13,7 @@ mod places;
 mod point;
 mod points;
 mod random;
+mod repeated;
 mod segments;
 mod stretch;
 mod text_store;

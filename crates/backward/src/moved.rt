@@ -1,78 +1,215 @@
-//! Lists of targets, compared with those of a later turn of a REPEAT block, whose detectors are some number later.
-ghost use Rattle.std.specs.Prelude.{◌≡◌, ℕ, ◌+◌, ◌<◌, ◌≤◌, [], ◌∷◌, true, length, slice_index_or, IfOk, IfSome, OnOk, option_to_list};
-ghost use Rattle.backward.specs.private.MovedTargets.{moved_list, moved_lists};
-ghost use Rattle.step_model.specs.TargetSets.{members};
+//! Lists of targets, compared with those of a later turn of a REPEAT block, whose detectors are some number later; and those of many
+//! turns earlier.
+ghost use Rattle.std.specs.Prelude.{◌≡◌, ◌≤◌, [], ◌∷◌, ◌++◌, ◌*◌, map, take, true, length, All, IfOk, IfSome, OnOk, option_to_list};
+ghost use Rattle.backward.specs.private.MovedTargets.{IsClear, earlier_list, grown_list, grown_lists, moved_list, picked, steps_before, window_end};
 
 use flat_lists::FlatLists;
-use record_targets::ChangingLists;
 use std::alloc::{AllocError, Allocator};
 
-// A target, moved to a detector that is `by` earlier. An observable stays.
-#[inline(always)]
-fn moved_target(target: u32, by: usize, detectors: usize) -> Option<u32>
-    ensures { option_to_list result ≡ moved_list detectors by (target ∷ []) }
-{
-    if target as usize >= detectors {
-        Some(target)
-    } else if (target as usize) < by {
-        None
-    } else {
-        Some((target as usize - by) as u32)
+/// By how much detectors of a turn lie before those of the turn after it. The targets from one on stay: those are observables, and
+/// detectors that the turns don't know.
+#[derive(Clone, Copy)]
+pub(crate) struct Shift {
+    pub(crate) by: usize,
+    pub(crate) staying: usize,
+    /// How many detectors and targets there are.
+    pub(crate) detectors: usize,
+    pub(crate) targets: usize,
+}
+
+impl Shift {
+    // The end of the first detectors that stay: each has one before it that doesn't.
+    #[inline(always)]
+    fn window_end(&self) -> usize
+        ensures { result ≡ window_end self.now }
+    {
+        self.staying.saturating_add(self.by).min(self.detectors)
     }
 }
 
-/// Whether a list has the targets of another one, moved to detectors that are `by` earlier, one by one and none left out.
-pub(crate) fn is_moved(list: &[u32], later: &[u32], by: usize, detectors: usize) -> bool
-    ensures { result ≡ true → list.now ≡ moved_list detectors by later.now }
+/// Whether a list is that of one turn earlier.
+pub(crate) fn is_earlier(list: &[u32], later: &[u32], shift: &Shift) -> bool
+    ensures { result ≡ true → list.now ≡ earlier_list shift.now later.now }
 {
-    if list.len() != later.len() {
+    let Some(middle) = end_of_picked(list, 0, later, shift.by, shift.window_end(), shift.by) else {
         return false;
+    };
+    match end_of_picked(list, middle, later, shift.staying, shift.targets, 0) {
+        Some(end) => end == list.len(),
+        None => false,
     }
+}
+
+// Where those of a list end that are at least `low` and below `high`, moved to be `by` earlier, where they stand in another
+// list from an index on.
+#[inline(always)]
+fn end_of_picked(
+    list: &[u32],
+    from: usize,
+    later: &[u32],
+    low: usize,
+    high: usize,
+    by: usize,
+) -> Option<usize>
+    requires low { by ≤ low }
+    requires from { from ≤ length list.now }
+    ensures within { IfSome result (λ end. end ≤ length list.now) }
+    ensures picked { IfSome result (λ end. take end list.now
+        ≡ take from list.now ++ picked low high by later.now) }
+{
+    let mut at = from;
     for i in 0..later.len() {
-        match moved_target(later[i], by, detectors) {
-            Some(target) if target == list[i] => {}
-            _ => return false,
+        let target = later[i] as usize;
+        if low <= target && target < high {
+            if at >= list.len() || list[at] as usize != target - by {
+                return None;
+            }
+            at += 1;
         }
     }
-    true
+    Some(at)
 }
 
 /// The same of all lists.
-pub(crate) fn are_moved<A: Allocator + Copy>(
+pub(crate) fn are_earlier<A: Allocator + Copy>(
     lists: &FlatLists<u32, A>,
     later: &FlatLists<u32, A>,
-    by: usize,
-    detectors: usize,
+    shift: &Shift,
 ) -> bool
-    ensures { result ≡ true → lists.now ≡ moved_lists detectors by later.now }
+    ensures { result ≡ true → lists.now ≡ map (earlier_list shift.now) later.now }
 {
     if lists.len() != later.len() {
         return false;
     }
     for i in 0..later.len() {
-        if !is_moved(lists.get(i), later.get(i), by, detectors) {
+        if !is_earlier(lists.get(i), later.get(i), shift) {
             return false;
         }
     }
     true
 }
 
-/// Lists of targets, moved to detectors that are `by` earlier.
-pub(crate) fn moved_lists<A: Allocator + Copy>(
+/// Whether no list has one of the first detectors that stay.
+pub(crate) fn are_clear<A: Allocator + Copy>(lists: &FlatLists<u32, A>, shift: &Shift) -> bool
+    ensures { result ≡ true → All (IsClear shift.now) lists.now }
+{
+    for i in 0..lists.len() {
+        if !is_clear(lists.get(i), shift) {
+            return false;
+        }
+    }
+    true
+}
+
+fn is_clear(list: &[u32], shift: &Shift) -> bool
+    ensures { result ≡ true → IsClear shift.now list.now }
+{
+    let end = shift.window_end();
+    for target in list {
+        if shift.staying <= *target as usize && (*target as usize) < end {
+            return false;
+        }
+    }
+    true
+}
+
+/// Lists of targets so many turns earlier.
+pub(crate) fn grown_lists<A: Allocator + Copy>(
     alloc: A,
     lists: &FlatLists<u32, A>,
-    by: usize,
-    detectors: usize,
+    turns: usize,
+    shift: &Shift,
 ) -> Result<FlatLists<u32, A>, AllocError>
-    ensures { IfOk result (λ moved. moved ≡ moved_lists detectors by lists.now) }
+    requires far { turns * shift.now.by ≤ usize.MAX }
+    ensures { IfOk result (λ grown. grown ≡ grown_lists shift.now turns lists.now) }
 {
-    let mut moved = FlatLists::with_rooms(alloc, lists.len(), item_count(lists))?;
+    let mut grown = FlatLists::with_rooms(alloc, lists.len(), item_count(lists))?;
     let mut list = Vec::new(alloc);
+    let mut first = Vec::new(alloc);
     for i in 0..lists.len() {
-        move_list(lists.get(i), by, detectors, &mut list)?;
-        moved.push(list.as_slice())?;
+        grow_list(lists.get(i), turns, shift, &mut first, &mut list)?;
+        grown.push(list.as_slice())?;
     }
-    Ok(moved)
+    Ok(grown)
+}
+
+// Puts a list of so many turns earlier into `into`, in place of what it held.
+fn grow_list<A: Allocator + Copy>(
+    list: &[u32],
+    turns: usize,
+    shift: &Shift,
+    first: &mut Vec<u32, A>,
+    into: &mut Vec<u32, A>,
+) -> Result<(), AllocError>
+    requires far { turns * shift.now.by ≤ usize.MAX }
+    ensures { OnOk result (into.new.items ≡ grown_list shift.now turns list.now) }
+{
+    let far = turns * shift.by;
+    into.clear();
+    first.clear();
+    pick(list, far, shift.staying, far, into)?;
+    pick(list, shift.staying, shift.window_end(), 0, first)?;
+    put_steps(first.as_slice(), turns, shift, into)?;
+    pick(list, shift.staying, shift.targets, 0, into)
+}
+
+// Puts the detectors before these, which are the first that stay, so many turns earlier and less, behind others.
+fn put_steps<A: Allocator + Copy>(
+    first: &[u32],
+    turns: usize,
+    shift: &Shift,
+    into: &mut Vec<u32, A>,
+) -> Result<(), AllocError>
+    requires far { turns * shift.now.by ≤ usize.MAX }
+    ensures { OnOk result
+        (into.new.items ≡ into.old.items ++ steps_before shift.now turns first.now) }
+{
+    // As most words of most blocks.
+    if first.is_empty() {
+        return Ok(());
+    }
+    let mut left = turns;
+    while left > 0 {
+        let far = left * shift.by;
+        pick(first, far, shift.window_end(), far, into)?;
+        left -= 1;
+    }
+    Ok(())
+}
+
+// Puts those of a list that are at least `low` and below `high`, moved to be `by` earlier, behind others.
+#[inline(always)]
+fn pick<A: Allocator + Copy>(
+    list: &[u32],
+    low: usize,
+    high: usize,
+    by: usize,
+    into: &mut Vec<u32, A>,
+) -> Result<(), AllocError>
+    requires { by ≤ low }
+    ensures { OnOk result (into.new.items ≡ into.old.items ++ picked low high by list.now) }
+{
+    for target in list {
+        let target = *target as usize;
+        if low <= target && target < high {
+            into.push((target - by) as u32)?;
+        }
+    }
+    Ok(())
+}
+
+// A target that is below `staying`, moved to be `by` earlier; others stay.
+#[inline(always)]
+fn moved_target(target: u32, by: usize, staying: usize) -> Option<u32>
+    ensures { option_to_list result ≡ moved_list staying by (target ∷ []) }
+{
+    if target as usize >= staying {
+        Some(target)
+    } else if (target as usize) < by {
+        None
+    } else {
+        Some((target as usize - by) as u32)
+    }
 }
 
 /// How many items lists have in all.
@@ -84,121 +221,20 @@ pub(crate) fn item_count<A: Allocator + Copy>(lists: &FlatLists<u32, A>) -> usiz
     count
 }
 
-/// Puts a list of targets, moved to detectors that are `by` earlier, into `into`, in place of what it held.
+/// Puts a list of targets, those below `staying` moved to be `by` earlier, into `into`, in place of what it held.
 pub(crate) fn move_list<A: Allocator + Copy>(
     list: &[u32],
     by: usize,
-    detectors: usize,
+    staying: usize,
     into: &mut Vec<u32, A>,
 ) -> Result<(), AllocError>
-    ensures { OnOk result (into.new.items ≡ moved_list detectors by list.now) }
+    ensures { OnOk result (into.new.items ≡ moved_list staying by list.now) }
 {
     into.clear();
     for target in list {
-        if let Some(moved) = moved_target(*target, by, detectors) {
+        if let Some(moved) = moved_target(*target, by, staying) {
             into.push(moved)?;
         }
     }
     Ok(())
-}
-
-/// The lowest record from which on the lists of all records up to `end` are those of `later` records later, moved to
-/// detectors that are `by` earlier; `least` or more. A record whose list doesn't stand as it is asked for ends them.
-pub(crate) fn repeated_from<'s, A: Allocator + Copy>(
-    lists: &ChangingLists<'s, A>,
-    least: usize,
-    end: usize,
-    later: usize,
-    by: usize,
-    detectors: usize,
-) -> usize
-    requires order { least ≤ end }
-    requires within { end + later ≤ length lists.now }
-    ensures above { least ≤ result }
-    ensures below { result ≤ end }
-    ensures each { (r : ℕ)
-        → result ≤ r
-        → r < end
-        → members (slice_index_or lists.now r [])
-        ≡ moved_list detectors by (members (slice_index_or lists.now (r + later) [])) }
-{
-    let mut from = end;
-    while from > least && is_repeated(lists, from - 1, later, by, detectors) {
-        from -= 1;
-    }
-    from
-}
-
-// Whether the list of a record is that of `later` records later, moved to detectors that are `by` earlier.
-fn is_repeated<'s, A: Allocator + Copy>(
-    lists: &ChangingLists<'s, A>,
-    rec: usize,
-    later: usize,
-    by: usize,
-    detectors: usize,
-) -> bool
-    requires { rec + later < length lists.now }
-    ensures { result ≡ true
-        → members (slice_index_or lists.now rec [])
-        ≡ moved_list detectors by (members (slice_index_or lists.now (rec + later) [])) }
-{
-    match lent_both(lists, rec, later) {
-        Some((list, other)) => is_moved(list, other, by, detectors),
-        None => false,
-    }
-}
-
-// The lists of a record and of the one that is `later` records later, where both stand as they are asked for. No record has a
-// number that doesn't fit.
-fn lent_both<'l, 's, A: Allocator + Copy>(
-    lists: &'l ChangingLists<'s, A>,
-    rec: usize,
-    later: usize,
-) -> Option<(&'l [u32], &'l [u32])>
-    requires { rec + later < length lists.now }
-    ensures first { IfSome result (λ both. both.0.now
-        ≡ members (slice_index_or lists.now rec [])) }
-    ensures second { IfSome result (λ both. both.1.now
-        ≡ members (slice_index_or lists.now (rec + later) [])) }
-{
-    let list = lists.lent(rec)?;
-    let other = lists.lent(rec.checked_add(later)?)?;
-    Some((list, other))
-}
-
-/// By how many detectors the lists of the records before `end` lie earlier than those of `later` records later: a guess
-/// from the last of them in which a detector is first; 0 where none of the last `later` is such.
-pub(crate) fn detectors_moved<'s, A: Allocator + Copy>(
-    lists: &ChangingLists<'s, A>,
-    end: usize,
-    later: usize,
-    detectors: usize,
-) -> usize
-    requires { end + later ≤ length lists.now }
-{
-    for i in 0..later.min(end) {
-        if let Some(by) = first_moved(lists, end - 1 - i, later, detectors) {
-            return by;
-        }
-    }
-    0
-}
-
-// By how many detectors the first target of a record lies earlier than that of `later` records later, where both are detectors.
-fn first_moved<'s, A: Allocator + Copy>(
-    lists: &ChangingLists<'s, A>,
-    rec: usize,
-    later: usize,
-    detectors: usize,
-) -> Option<usize>
-    requires { rec + later < length lists.now }
-{
-    let (list, other) = lent_both(lists, rec, later)?;
-    let first = *list.first()? as usize;
-    let moved = *other.first()? as usize;
-    if first <= moved && moved < detectors {
-        Some(moved - first)
-    } else {
-        None
-    }
 }

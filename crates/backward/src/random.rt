@@ -54,8 +54,6 @@ fn random_from_end<'s, 'p, 'a, A: Allocator + Copy, T: Tracker>(
     ensures lowest { IfOk result (λ random. IfSome random (λ random. IsLowestRandom
         program.now.listing random.0 random.1)) }
 {
-    // Two turns are compared with the lists of the records between.
-    found.keeps = true;
     let distance = (at.walk.place() / SHARE).max(1);
     let parts = leave_segments(program, distance, at, found)?;
     drop(parts);

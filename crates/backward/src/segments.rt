@@ -72,7 +72,7 @@ pub(crate) fn push_kept<'p, 'a, A: Allocator + Copy, W: Sink>(
 {
     match turns {
         Some(kept) => {
-            push_turns(&kept.lines, kept.turns, kept.by, lines, out, sink)?;
+            push_turns(&kept.lines, kept.turns, &kept.shift, lines, out, sink)?;
             Ok(kept.end)
         }
         None => Ok(start),

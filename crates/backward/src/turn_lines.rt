@@ -1,13 +1,13 @@
 //! The error lines of a turn of a REPEAT block, kept, and the text of those of the turns before it, which repeat them: the same
 //! lines with targets that are some detectors earlier.
-ghost use Rattle.std.specs.Prelude.{◌≡◌, ◌*◌, ◌<◌, ◌≤◌, ◌++◌, ◌∷◌, [], length, OnErr, OnOk};
+ghost use Rattle.std.specs.Prelude.{◌≡◌, ◌*◌, ◌<◌, ◌≤◌, ◌++◌, ◌∷◌, [], length, true, OnErr, OnOk};
 ghost use Rattle.step_model.specs.Pushed.{Pushes};
 ghost use Rattle.backward.specs.private.Points.{PushesSome};
 ghost use Rattle.backward.specs.private.Stretches.{Gives};
-ghost use Rattle.backward.specs.private.TurnLines.{GivesTurns, moved_error_lines, turns_text};
+ghost use Rattle.backward.specs.private.TurnLines.{AreClear, GivesTurns, moved_error_lines, turns_text};
 
 use crate::line_store::LineStore;
-use crate::moved::{item_count, move_list};
+use crate::moved::{Shift, are_clear, item_count, move_list};
 use crate::text_store::TextStore;
 use flat_lists::FlatLists;
 use programs::Program;
@@ -79,6 +79,13 @@ impl<'p, 'a, A: Allocator + Copy> TurnLines<'p, 'a, A> {
         }
     }
 
+    /// Whether no line has one of the first detectors that stay.
+    pub(crate) fn are_clear(&self, shift: &Shift) -> bool
+        ensures { result ≡ true → AreClear shift.now self.now.lines }
+    {
+        are_clear(&self.targets, shift)
+    }
+
     /// Whether more lines are to be kept.
     pub(crate) fn has_room(&self) -> bool {
         self.kept < MOST
@@ -121,10 +128,11 @@ impl<'p, 'a, A: Allocator + Copy> LineStore for TurnLines<'p, 'a, A> {
     }
 }
 
-/// Gives the lines of a turn to a store, in their order, with targets moved to detectors that are `by` earlier.
+/// Gives the lines of a turn to a store, in their order, with targets below `staying` moved to be `by` earlier.
 pub(crate) fn give_turn<'p, 'a, A: Allocator + Copy, L: LineStore>(
     turn: &TurnLines<'p, 'a, A>,
     by: usize,
+    staying: usize,
     room: &mut Vec<u32, A>,
     lines: &mut L,
 ) -> Result<(), AllocError>
@@ -132,11 +140,10 @@ pub(crate) fn give_turn<'p, 'a, A: Allocator + Copy, L: LineStore>(
     ensures program { L.program lines.new ≡ L.program lines.old }
     ensures holds { OnOk result
         (Gives (L.holds lines.old) (L.holds lines.new)
-        (moved_error_lines (length turn.now.program.listing.detectors) by turn.now.lines)) }
+        (moved_error_lines staying by turn.now.lines)) }
 {
-    let detectors = turn.program.detector_count();
     for i in 0..turn.entries.len() {
-        move_list(turn.targets.get(i), by, detectors, room)?;
+        move_list(turn.targets.get(i), by, staying, room)?;
         if !room.is_empty() {
             lines.give(turn.entries[i], room.as_slice())?;
         }
@@ -147,7 +154,7 @@ pub(crate) fn give_turn<'p, 'a, A: Allocator + Copy, L: LineStore>(
 // Gives the lines of the turns before one, from that behind which `first` turns are left to that which is `last` turns earlier.
 fn give_turns<'p, 'a, A: Allocator + Copy, L: LineStore>(
     turn: &TurnLines<'p, 'a, A>,
-    by: usize,
+    shift: &Shift,
     first: usize,
     last: usize,
     room: &mut Vec<u32, A>,
@@ -155,14 +162,14 @@ fn give_turns<'p, 'a, A: Allocator + Copy, L: LineStore>(
 ) -> Result<(), AllocError>
     requires store { L.program lines.old ≡ turn.now.program }
     requires order { first ≤ last }
-    requires far { last * by ≤ usize.MAX }
+    requires far { last * shift.now.by ≤ usize.MAX }
     ensures program { L.program lines.new ≡ L.program lines.old }
     ensures turns { OnOk result
-        (GivesTurns (L.holds lines.old) (L.holds lines.new)
-        (length turn.now.program.listing.detectors) by first last turn.now.lines) }
+        (GivesTurns (L.holds lines.old) (L.holds lines.new) shift.now.staying shift.now.by first last
+        turn.now.lines) }
 {
     for turns in first..last {
-        give_turn(turn, (turns + 1) * by, room, lines)?;
+        give_turn(turn, (turns + 1) * shift.by, shift.staying, room, lines)?;
     }
     Ok(())
 }
@@ -180,20 +187,20 @@ fn turns_at_once<'p, 'a, A: Allocator + Copy>(turn: &TurnLines<'p, 'a, A>) -> us
 pub(crate) fn push_turns<'p, 'a, A: Allocator + Copy, W: Sink>(
     turn: &TurnLines<'p, 'a, A>,
     turns: usize,
-    by: usize,
+    shift: &Shift,
     lines: &mut TextStore<'_, 'a, A>,
     out: &mut Pieces,
     sink: &mut W,
 ) -> Result<(), AllocError>
     requires none { lines.old.text.text ≡ [] }
     requires store { lines.old.program.now ≡ turn.now.program }
-    requires far { turns * by ≤ usize.MAX }
+    requires far { turns * shift.now.by ≤ usize.MAX }
     ensures text { OnOk result
         (Pushes W.taken W.failures sink.old sink.new out.old out.new
-        (turns_text turn.now by turns)) }
+        (turns_text turn.now shift.now.staying shift.now.by turns)) }
     ensures some { OnErr result
         (PushesSome W.taken W.failures sink.old sink.new out.old out.new
-        (turns_text turn.now by turns)) }
+        (turns_text turn.now shift.now.staying shift.now.by turns)) }
     ensures none { OnOk result (lines.new.text.text ≡ []) }
     ensures store { lines.new.program.now ≡ lines.old.program.now }
 {
@@ -205,7 +212,7 @@ pub(crate) fn push_turns<'p, 'a, A: Allocator + Copy, W: Sink>(
             return Ok(());
         }
         let next = left.saturating_sub(at_once);
-        give_turns(turn, by, next, left, &mut room, lines)?;
+        give_turns(turn, shift, next, left, &mut room, lines)?;
         let text = lines.take_text();
         text.push_to(out, sink);
         lines.reuse(text);

@@ -1,22 +1,25 @@
 //! Turns of a block that repeat, on the way back over a stretch of steps. Where the words at a place are those of the
 //! same place one turn later, but for the numbers of detectors, the turns before it do the same again: they are gone
 //! back over at once, and their lines are those of the turn behind them.
-ghost use Rattle.std.specs.Prelude.{◌≡◌, [], ◌≤◌, ◌<◌, reverse, IfOk, IfSome, OnOk};
-ghost use Rattle.backward.specs.private.Passes.{IsPassed, Stays};
+ghost use Rattle.std.specs.Prelude.{◌≡◌, [], ◌≤◌, ◌<◌, false, reverse, IfOk, IfSome, OnOk};
+ghost use Rattle.backward.specs.private.Passes.{IsPassed, Stays, records_before};
 ghost use Rattle.backward.specs.private.Points.{IsPointOf};
-ghost use Rattle.backward.specs.private.Repeats.{AreStill};
+ghost use Rattle.backward.specs.private.Repeats.{AreListed, IsTurn};
 ghost use Rattle.backward.specs.private.Segments.{turns_end};
 ghost use Rattle.backward.specs.private.Stretches.{Gives, lines_between};
 ghost use Rattle.backward.specs.private.Turns.{AreGonePast, AreKept, ArePassed, IsKnown, IsPeriod};
 
 use crate::found::Found;
 use crate::line_store::LineStore;
-use crate::moved::{are_moved, detectors_moved, moved_lists, repeated_from};
+use crate::moved::{Shift, are_earlier, grown_lists};
 use crate::pass::steps_back;
 use crate::point::{KeptPoint, Point};
 use crate::points::kept_point;
+use crate::repeated::{guessed_shift, kept_lists, repeated_from};
 use crate::turn_lines::{TurnLines, give_turn};
+use flat_lists::FlatLists;
 use programs::{Program, Walk};
+use record_targets::target_count;
 use std::alloc::{AllocError, Allocator};
 use trackers::Tracker;
 
@@ -31,8 +34,7 @@ pub(crate) struct Period<'p, 'a, A: Allocator + Copy> {
     pub(crate) point: KeptPoint<'p, 'a, A>,
     /// The same place one turn later.
     pub(crate) later: KeptPoint<'p, 'a, A>,
-    /// By how many detectors those of a turn are earlier than those of the turn after it.
-    pub(crate) by: usize,
+    pub(crate) shift: Shift,
     /// The first record from which on the lists of those before the place are as a turn later.
     pub(crate) low: usize,
     /// The first place to which turns may be gone back over.
@@ -45,7 +47,7 @@ impl<A: Allocator + Copy> Drop for Period<'_, '_, A> {
         let Period {
             point,
             later,
-            by: _,
+            shift: _,
             low: _,
             end: _,
         } = self;
@@ -62,8 +64,7 @@ pub(crate) struct KeptTurns<'p, 'a, A: Allocator + Copy> {
     pub(crate) start: usize,
     pub(crate) end: usize,
     pub(crate) turns: usize,
-    /// By how many detectors those of a turn are earlier than those of the turn after it.
-    pub(crate) by: usize,
+    pub(crate) shift: Shift,
 }
 
 // Written out, so that it is a call in the proof of each function that owns one.
@@ -74,7 +75,7 @@ impl<A: Allocator + Copy> Drop for KeptTurns<'_, '_, A> {
             start: _,
             end: _,
             turns: _,
-            by: _,
+            shift: _,
         } = self;
         drop(lines);
     }
@@ -121,31 +122,56 @@ impl Looks {
     }
 }
 
-// The place one turn before that of a walk, where there is one that isn't before `from`.
-fn turn_to<A: Allocator + Copy>(walk: &Walk<'_, '_, A>, from: usize) -> Option<usize>
-    ensures { IfSome result (λ to. (from ≤ to) × (to < walk.now.place)
-        × AreStill walk.now.program.listing to walk.now.place) }
-{
-    let earlier = walk.turn_before()?;
-    let to = earlier.place();
-    if to < from {
-        return None;
-    }
-    Some(to)
+/// The place one turn before another, and how many records are made before it.
+#[derive(Clone, Copy)]
+struct TurnStart {
+    place: usize,
+    records: usize,
 }
 
-// What is known of a place whose turn may repeat the one after it, where it does: the words there are kept in lists.
+// The place one turn before that of a walk, where there is one that isn't before `from`. Feedback between the two depends on
+// records that are made there, and there is none where lists are kept.
+fn turn_to<A: Allocator + Copy>(
+    walk: &Walk<'_, '_, A>,
+    from: usize,
+    keeps: bool,
+) -> Option<TurnStart>
+    ensures place { IfSome result (λ to. (from ≤ to.place) × (to.place < walk.now.place)) }
+    ensures records { IfSome result (λ to. to.records
+        ≡ records_before walk.now.program.listing to.place) }
+    ensures turn { IfSome result (λ to. IsTurn walk.now.program.listing to.place walk.now.place
+        keeps) }
+{
+    let earlier = walk.turn_before(!keeps)?;
+    let place = earlier.place();
+    if place < from {
+        return None;
+    }
+    Some(TurnStart {
+        place,
+        records: earlier.records(),
+    })
+}
+
+// What is known of a place whose turn may repeat the one after it, where it does: the words there are kept in lists, and so are the
+// lists of the turn's records one turn later, and its lines.
 fn period_at<'s, 'p, 'a, A: Allocator + Copy>(
     program: &Program<'a, A>,
     from: usize,
     later: KeptPoint<'p, 'a, A>,
+    listed: &FlatLists<u32, A>,
+    lines: &TurnLines<'p, 'a, A>,
     point: KeptPoint<'p, 'a, A>,
     found: &Found<'s, A>,
 ) -> Option<Period<'p, 'a, A>>
     requires later { IsPointOf program.now later }
     requires point { IsPointOf program.now point }
     requires earlier { point.walk.place < later.walk.place }
-    requires still { AreStill program.now.listing point.walk.place later.walk.place }
+    requires turn { IsTurn program.now.listing point.walk.place later.walk.place found.now.keeps }
+    requires listed { found.now.settled ≡ false
+        → AreListed program.now.listing point.walk.place later.walk.place listed.now }
+    requires lines { lines.now.lines
+        ≡ reverse (lines_between program.now.listing point.walk.place later.walk.place) }
     requires from { from ≤ point.walk.place }
     requires known { IsKnown program.now.listing point.walk.place found.now }
     ensures period { IfSome result (IsPeriod program.now found.now) }
@@ -155,21 +181,21 @@ fn period_at<'s, 'p, 'a, A: Allocator + Copy>(
         × (period.end ≤ point.entry.walk.place)) }
 {
     program.well_formed();
-    let detectors = program.detector_count();
+    let targets = target_count(program);
     let end = point.walk.records();
-    let records = later.walk.records().saturating_sub(end);
-    if later.walk.records() > found.known || found.is_random() {
+    if found.settled || found.is_random() {
         return None;
     }
-    let by = detectors_moved(&found.lists, end, records, detectors);
-    if !are_moved(&point.lists, &later.lists, by, detectors) {
+    let shift = guessed_shift(&found.lists, listed, end, program.detector_count(), targets);
+    if !are_earlier(&point.lists, &later.lists, &shift) || !lines.are_clear(&shift) {
         return None;
     }
     let place = point.walk.place();
     let steps = later.walk.place() - place;
     let most = (place - from) / steps;
+    let records = listed.len();
     let least = end.saturating_sub(most.saturating_mul(records));
-    let low = repeated_from(&found.lists, least, end, records, by, detectors);
+    let low = repeated_from(&found.lists, listed, least, end, &shift);
     let turns = if records == 0 {
         most
     } else {
@@ -178,7 +204,7 @@ fn period_at<'s, 'p, 'a, A: Allocator + Copy>(
     Some(Period {
         point,
         later,
-        by,
+        shift,
         low,
         end: place.saturating_sub(turns.saturating_mul(steps)).max(from),
     })
@@ -212,17 +238,13 @@ fn repeat_turns<'s, 'p, 'a, A: Allocator + Copy, T: Tracker>(
     if turns == 0 || walk.records() < period.low || at.walk.place() <= walk.place() {
         return Ok(0);
     }
-    let Some(by) = turns.checked_mul(period.by) else {
+    let Some(_far) = turns.checked_mul(period.shift.by) else {
         return Ok(0);
     };
-    let lists = moved_lists(
-        *found.alloc,
-        &period.point.lists,
-        by,
-        program.detector_count(),
-    )?;
+    let lists = grown_lists(*found.alloc, &period.point.lists, turns, &period.shift)?;
     at.tracker.restore(&lists)?;
     found.left = walk.collapses();
+    found.known = found.known_at(walk.records());
     at.walk = walk;
     Ok(turns)
 }
@@ -233,6 +255,7 @@ fn repeats<'s, 'p, 'a, A: Allocator + Copy, T: Tracker>(
     program: &Program<'a, A>,
     from: usize,
     later: KeptPoint<'p, 'a, A>,
+    listed: &FlatLists<u32, A>,
     lines: TurnLines<'p, 'a, A>,
     at: &mut Point<'p, 'a, A, T>,
     found: &mut Found<'s, A>,
@@ -244,7 +267,9 @@ fn repeats<'s, 'p, 'a, A: Allocator + Copy, T: Tracker>(
         found.old }
     requires later { IsPointOf program.now later }
     requires earlier { at.old.walk.place < later.walk.place }
-    requires still { AreStill program.now.listing at.old.walk.place later.walk.place }
+    requires turn { IsTurn program.now.listing at.old.walk.place later.walk.place found.old.keeps }
+    requires listed { found.old.settled ≡ false
+        → AreListed program.now.listing at.old.walk.place later.walk.place listed.now }
     requires store { lines.program ≡ program.now }
     requires lines { lines.lines
         ≡ reverse (lines_between program.now.listing at.old.walk.place later.walk.place) }
@@ -257,7 +282,7 @@ fn repeats<'s, 'p, 'a, A: Allocator + Copy, T: Tracker>(
     let place = at.walk.place();
     let steps = later.walk.place() - place;
     let point = kept_point(*found.alloc, at)?;
-    let Some(period) = period_at(program, from, later, point, found) else {
+    let Some(period) = period_at(program, from, later, listed, &lines, point, found) else {
         looks.look_again(place, steps);
         return Ok(None);
     };
@@ -277,7 +302,7 @@ fn repeats<'s, 'p, 'a, A: Allocator + Copy, T: Tracker>(
         start: at.walk.place(),
         end: place,
         turns,
-        by: period.by,
+        shift: period.shift,
     }))
 }
 
@@ -344,7 +369,7 @@ fn given_turn<'s, 'p, 'a, A: Allocator + Copy, T: Tracker, L: LineStore>(
 {
     let mut turn = TurnLines::new(*found.alloc, program);
     find_turn(program, to, at, found, &mut turn)?;
-    give_turn(&turn, 0, &mut Vec::new(*found.alloc), lines)?;
+    give_turn(&turn, 0, 0, &mut Vec::new(*found.alloc), lines)?;
     Ok(turn)
 }
 
@@ -374,19 +399,23 @@ pub(crate) fn pass_turns<'s, 'p, 'a, A: Allocator + Copy, T: Tracker, L: LineSto
         (lines_between program.now.listing (turns_end at.new.walk.place kept) at.old.walk.place))) }
     ensures store { L.program lines.new ≡ L.program lines.old }
 {
-    let Some(to) = turn_to(&at.walk, from) else {
+    let Some(to) = turn_to(&at.walk, from, found.keeps) else {
         looks.ask = at.walk.place().saturating_sub(FAR);
         return Ok(None);
     };
-    if at.walk.place() - to > longest {
-        looks.ask = to;
+    looks.ask = to.place;
+    if at.walk.place() - to.place > longest {
         return Ok(None);
     }
+    let records = at.walk.records();
+    let Some(listed) = kept_lists(*found.alloc, &found.lists, to.records, records)? else {
+        return Ok(None);
+    };
     let later = kept_point(*found.alloc, at)?;
-    let turn = given_turn(program, to, at, found, lines)?;
-    if at.walk.place() > to {
+    let turn = given_turn(program, to.place, at, found, lines)?;
+    if at.walk.place() > to.place {
         looks.ask = at.walk.place().saturating_sub(FAR);
         return Ok(None);
     }
-    repeats(program, from, later, turn, at, found, looks)
+    repeats(program, from, later, &listed, turn, at, found, looks)
 }

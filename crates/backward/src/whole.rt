@@ -136,14 +136,11 @@ fn find_some<'s, 'p, 'a, A: Allocator + Copy, T: Tracker>(
         (lines_between program.now.listing (turns_end at.new.walk.place turns) at.old.walk.place))) }
     ensures store { lines.new.program.now ≡ lines.old.program.now }
 {
-    // Two turns are compared with the lists of the records between.
-    found.keeps = true;
     let longest = LONGEST.min(at.walk.place() / FEWEST);
     let turns = pass_turns(program, 0, longest, at, found, lines, looks)?;
     if turns.is_some() {
         return Ok(turns);
     }
-    found.keeps = false;
     let next = looks.ask.min(at.walk.place().saturating_sub(1));
     looks.ask = next;
     find_back(program, next, Stretch { from: 0, to }, at, found, lines)?;

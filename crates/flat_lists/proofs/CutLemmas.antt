@@ -1,7 +1,7 @@
 -- How many pieces a cut has, which piece is at an index, and one more piece at the end.
 use Rattle.std.proofs.Common.{◌≡◌, ℕ, ◌+◌, ◌-◌, ◌<◌, ◌≤◌, zero, suc, List, [], ◌∷◌, ◌++◌, length, get_or, take, drop, Some, refl, sym, ap, ◌∙◌, arith, slice_get}
 use Rattle.std.specs.Prelude.{All, slice_range}
-use Rattle.std.proofs.lemmas.List.{drop_at, drop-append-le, take-append-drop, take-append-le, take_all, length-drop, length-take, get_or_read}
+use Rattle.std.proofs.lemmas.List.{drop_all, drop_at, drop-append-le, take-append-drop, take-append-le, take_all, length-drop, length-take, get_or_read}
 use Rattle.std.proofs.lemmas.List.Elements.{All-cons, All-drop, All-nil, All-take}
 use Rattle.flat_lists.specs.Cuts.{cut, AreEnds}
 
@@ -37,6 +37,15 @@ pub All-cut : {X : Type 0} (P : X → Type 0) (start : ℕ) (ends : List ℕ) (i
 All-cut P start [] items h = All-nil (All P)
 All-cut P start (end ∷ ends) items h =
     All-cons (All P) (slice_range items start end) (cut end ends items) (All-take P (end - start) (drop start items) (All-drop P start items h)) (All-cut P end ends items h)
+
+-- where there is no item, each piece is empty
+pub none-cut : {X : Type 0} (start : ℕ) (ends : List ℕ) (items : List X) → length items ≡ 0 → All (λ piece. piece ≡ []) (cut start ends items)
+none-cut start ends (item ∷ items) none = absurd (omega (arith, none))
+none-cut {X} start [] [] none = All-nil (λ (piece : List X). piece ≡ [])
+none-cut {X} start (end ∷ ends) [] none =
+    let nothing : List X = [] in
+    let empty : slice_range nothing start end ≡ [] = ap (take (end - start)) (drop_all start nothing (omega arith)) ∙ take_all (end - start) nothing (omega arith) in
+    All-cons (λ (piece : List X). piece ≡ []) (slice_range nothing start end) (cut end ends nothing) empty (none-cut end ends nothing none)
 
 -- each piece is a part of the list
 piece_in_range : (start : ℕ) (ends : List ℕ) (count k : ℕ) → AreEnds start ends count → k < length ends → (get_or (start ∷ ends) k 0 ≤ get_or ends k 0) × (get_or ends k 0 ≤ count)

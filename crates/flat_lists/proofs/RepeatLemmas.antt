@@ -1,10 +1,10 @@
 -- Lists of which those of later turns aren't kept: one more that is pushed, more turns, and which stands at an index.
-use Rattle.std.proofs.Common.{◌≡◌, ℕ, zero, suc, ◌+◌, ◌-◌, ◌*◌, ◌/◌, ◌%◌, ◌<◌, ◌≤◌, inl, inr, ℤ, List, [], ◌∷◌, ◌++◌, length, get_or, drop, reverse, take, refl, sym, ap, ap₂, subst, ◌∙◌, append_assoc, append-nil, add-zero, add-one, arith, length-append, length-drop}
+use Rattle.std.proofs.Common.{◌≡◌, ℕ, zero, suc, ◌+◌, ◌-◌, ◌*◌, ◌/◌, ◌%◌, ◌<◌, ◌≤◌, inl, inr, ℤ, List, [], ◌∷◌, ◌++◌, length, get_or, drop, map, reverse, take, refl, sym, ap, ap₂, subst, ◌∙◌, append_assoc, append-nil, add-zero, add-one, arith, length-append, length-drop}
 use Rattle.std.specs.Prelude.{All, nat_abs, ◌^◌}
 use Rattle.std.specs.List.{AllWithin}
 use Rattle.std.proofs.lemmas.Bool.{cases_lt}
 use Rattle.std.proofs.lemmas.List.{drop-append-le, drop_all, get_or-append_right, get_or-drop, get_or-take, get_or_append_left, get_or_push, length-take-le, length_push, reverse-append, take-append-le, take_all, take_at, take_more}
-use Rattle.std.proofs.lemmas.List.Elements.{All-get_or}
+use Rattle.std.proofs.lemmas.List.Elements.{All-append, All-drop, All-get_or, All-map, All-nil, All-take, All-weaker}
 use Rattle.std.specs.List.Sorted.{IsNonDecreasingBy}
 use Rattle.std.proofs.lemmas.List.Sorted.{IsNonDecreasingBy-push}
 use Rattle.std.proofs.lemmas.Nat.{div-add-mod', le-div, mod_below, mul-le}
@@ -344,3 +344,30 @@ is_pushed r before kept index is behind late below =
           ∙ get_or-drop (suc r.steps) kept (index - (r.start + r.turns * size)) []
           ∙ ap (λ (k : ℕ). get_or kept k []) place;
     }
+
+-- ---- no numbers
+
+none-moved : (n : ℕ) (steps xs : List ℤ) → xs ≡ [] → moved_by n steps xs ≡ []
+none-moved n [] [] none = refl
+none-moved n (step ∷ steps) [] none = refl
+none-moved n steps (x ∷ xs) none = absurd cc
+
+none-later : (steps : List ℤ) (turns : ℕ) (lists : Lists) → All (λ list. list ≡ []) lists → All (λ list. list ≡ []) (later (λ n. moved_by n steps) turns lists)
+none-later steps zero lists none = All-nil (λ (list : List ℤ). list ≡ [])
+none-later steps (suc turns) lists none =
+    let P : List ℤ → Type 0 = λ list. list ≡ [] in
+    All-append P (later (λ n. moved_by n steps) turns lists) (map (moved_by (suc turns) steps) lists) (none-later steps turns lists none)
+    (All-map P (moved_by (suc turns) steps) lists (All-weaker P (λ list. P (moved_by (suc turns) steps list)) (none-moved (suc turns) steps) lists none))
+
+-- where no list that is kept has a number, none has one
+none-unrolled : (repeats : List Repeat) (kept : Lists) → All (λ list. list ≡ []) kept → All (λ list. list ≡ []) (unrolled repeats kept)
+none-unrolled [] kept none = none
+none-unrolled (r ∷ earlier) kept none =
+    let P : List ℤ → Type 0 = λ list. list ≡ [] in
+    let front : Lists = take r.start (unrolled earlier kept) in
+    let before : All P front = All-take P r.start (unrolled earlier kept) (none-unrolled earlier kept none) in
+    let turns : All P (turns_of r front kept) = none-later (get_or kept r.steps []) r.turns (drop r.first front) (All-drop P r.first front before) in
+    All-append P (front ++ turns_of r front kept) (drop (suc r.steps) kept) (All-append P front (turns_of r front kept) before turns) (All-drop P (suc r.steps) kept none)
+
+pub none-at : (repeats : List Repeat) (kept : Lists) (index : ℕ) → All (λ list. list ≡ []) kept → index < length (unrolled repeats kept) → get_or (unrolled repeats kept) index [] ≡ []
+none-at repeats kept index none within = All-get_or (λ (list : List ℤ). list ≡ []) (unrolled repeats kept) index [] within (none-unrolled repeats kept none)

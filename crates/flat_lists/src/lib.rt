@@ -3,7 +3,7 @@
 #![tactic(auto)]
 
 ghost use Rattle.flat_lists.specs.Cuts.{cut, AreEnds};
-ghost use Rattle.std.specs.Prelude.{◌≡◌, ◌+◌, ◌-◌, ◌<◌, ◌==◌, [], ◌∷◌, ◌++◌, length, take, IfOk, OnOk, OnErr, Some, slice_get, slice_index, slice_index_or};
+ghost use Rattle.std.specs.Prelude.{◌≡◌, true, All, ◌+◌, ◌-◌, ◌<◌, ◌==◌, [], ◌∷◌, ◌++◌, length, take, IfOk, OnOk, OnErr, Some, slice_get, slice_index, slice_index_or};
 
 mod moved_lists;
 mod number_lists;
@@ -96,6 +96,14 @@ impl<T: Copy, A: Allocator + Copy> FlatLists<T, A> {
         ensures { result ≡ (length self.now == 0) }
     {
         self.len() == 0
+    }
+
+    // Whether no list has an item.
+    #[inline(always)]
+    fn are_empty(&self) -> bool
+        ensures { result ≡ true → All (λ list. list ≡ []) self.now }
+    {
+        self.items.is_empty()
     }
 
     /// Appends a copy of the list. It fails only where memory runs out, or where there would be 2^32 items or more.

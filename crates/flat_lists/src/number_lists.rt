@@ -5,7 +5,7 @@ ghost use Rattle.flat_lists.specs.Turns.{later, moved_by};
 ghost use Rattle.flat_lists.specs.private.Repeats.{AreRepeats, unrolled, with_steps};
 
 use crate::end_after;
-use crate::packed_lists::PackedLists;
+use crate::packed_lists::{PackedLists, empty};
 use arrayvec::ArrayVec;
 use std::alloc::{AllocError, Allocator};
 use std::marker::Model;
@@ -152,10 +152,16 @@ impl<A: Allocator + Copy> NumberLists<A> {
     }
 
     /// Puts the list at an index in place of what was there.
+    #[inline]
     pub fn put(&self, index: usize, list: &mut ArrayVec<i64, MOST_NUMBERS>)
         requires { index < length self.now }
         ensures { list.new.items ≡ slice_index_or self.now index [] }
     {
+        // As where a circuit states no coordinates.
+        if self.kept.are_empty() {
+            empty(list);
+            return;
+        }
         put_list(&self.kept, &self.repeats, index as u32, list);
     }
 }

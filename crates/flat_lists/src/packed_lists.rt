@@ -1,4 +1,4 @@
-ghost use Rattle.std.specs.Prelude.{◌≡◌, ◌<◌, ◌≤◌, ◌^◌, pos, ◌+ℤ◌, ◌*ℤ◌, [], ◌∷◌, ◌++◌, All, length, nat_abs, IfOk, OnOk, OnErr, slice_index_or};
+ghost use Rattle.std.specs.Prelude.{◌≡◌, ◌<◌, ◌≤◌, ◌^◌, pos, ◌+ℤ◌, ◌*ℤ◌, true, [], ◌∷◌, ◌++◌, All, length, nat_abs, IfOk, OnOk, OnErr, slice_index_or};
 ghost use Rattle.flat_lists.specs.Turns.{moved_by};
 ghost use Rattle.flat_lists.specs.private.Numbers.{folded, numbers_in, unfolded, with_group};
 
@@ -53,6 +53,14 @@ impl<A: Allocator + Copy> PackedLists<A> {
         ensures { result ≡ length self.now }
     {
         self.lists.len()
+    }
+
+    /// Whether no list has a number.
+    #[inline(always)]
+    pub(crate) fn are_empty(&self) -> bool
+        ensures { result ≡ true → All (λ list. list ≡ []) self.now }
+    {
+        self.lists.are_empty()
     }
 
     /// Appends a copy of the list. It fails only where memory runs out, or where there would be 2^32 bytes or more.
@@ -155,7 +163,7 @@ fn write_numbers<A: Allocator + Copy>(
 
 // Takes all numbers out, one by one: they are few, and each takes less than a call.
 #[inline(always)]
-fn empty(found: &mut ArrayVec<i64, MOST_NUMBERS>)
+pub(crate) fn empty(found: &mut ArrayVec<i64, MOST_NUMBERS>)
     ensures { found.new.items ≡ [] }
 {
     while found.pop().is_some() {}

@@ -1,6 +1,7 @@
 -- The turns of a block one after another: what one of them does, the next does with the numbers of later records and faults.
 -- (Stim's circuit format, github.com/quantumlib/Stim, doc/file_format_stim_circuit.md; how it is kept is this project's own.)
 use Rattle.std.specs.Prelude.{◌≡◌, ◌<◌, ◌≤◌, ◌+◌, ℕ, List, length, take, All, Some, option_map, slice_get}
+use Rattle.pauli_word.specs.declared.letter.Letter.{Letter}
 use Rattle.step_model.specs.Listing.{Listing, ListedStep, ListedFault, Recorded, Effect, Applies, Flips, One, Two, Collapse, Fault, Feedback, fault_at}
 use Rattle.step_model.specs.WellFormed.{step_faults, records_made, faults_named}
 
@@ -24,6 +25,10 @@ moved_step records faults (Two gate a b) = Two gate a b
 moved_step records faults (Collapse c r) = Collapse c (option_map (moved_recorded records faults) r)
 moved_step records faults (Fault f) = Fault (f + faults)
 moved_step records faults (Feedback w r) = Feedback w (r + records)
+
+-- feedback from one place to another depends on no record below a number
+abbrev pub AreFedFrom : List ListedStep → ℕ → ℕ → ℕ → Type 0
+AreFedFrom steps low from to = (k r : ℕ) (w : List Letter) → from ≤ k → k < to → slice_get steps k ≡ Some (Feedback w r) → low ≤ r
 
 -- each of the steps from one place to another is, with its numbers moved on, the one a period later
 pub record Repeat (steps : List ListedStep) (from to period records faults : ℕ) : Type 0 where

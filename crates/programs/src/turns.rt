@@ -1,7 +1,6 @@
 //! Turns of a block that a walk passes at once.
 ghost use Rattle.std.specs.Prelude.{◌≡◌, ◌+◌, ◌-◌, ◌*◌, ◌<◌, ◌≤◌, ℕ, true, false, [], ◌∷◌, IfSome, slice_get};
-ghost use Rattle.programs.specs.Turns.{Repeat, RepeatFaults, records_before, faults_before};
-ghost use Rattle.programs.specs.Walks.{is_feedback};
+ghost use Rattle.programs.specs.Turns.{AreFedFrom, Repeat, RepeatFaults, records_before, faults_before};
 ghost use Rattle.programs.specs.private.Turns.{AreTurnApart, GrowBy, GrowsBy, count_back, counts_back};
 
 use crate::place::{Place, go_to_step};
@@ -10,15 +9,17 @@ use crate::walk::Walk;
 use std::alloc::Allocator;
 
 impl<'a, 'p, A: Allocator + Copy> Walk<'a, 'p, A> {
-    /// The same place one turn earlier, where this one is in an outermost block and in no other, some turn is before it, and
-    /// no step between the two is feedback. It goes over these steps.
-    pub fn turn_before(&self) -> Option<Self>
+    /// The same place one turn earlier, where this one is in an outermost block and in no other, and some turn is before it.
+    /// Feedback between the two depends on records that are made there: none is answered where it depends on an earlier one, or
+    /// where there is some and none may be `fed` forward. It goes over these steps.
+    pub fn turn_before(&self, fed: bool) -> Option<Self>
         ensures program { IfSome result (λ walk. walk.program ≡ self.now.program) }
         ensures back { IfSome result (λ walk. walk.place < self.now.place) }
-        ensures still { IfSome result (λ walk. (k : ℕ)
-            → walk.place ≤ k
-            → k < self.now.place
-            → is_feedback (slice_get self.now.program.listing.steps k) ≡ false) }
+        ensures own { IfSome result (λ walk. AreFedFrom self.now.program.listing.steps
+            (records_before self.now.program.listing.steps walk.place) walk.place self.now.place) }
+        ensures none { fed ≡ false
+            → IfSome result (λ walk. (low : ℕ)
+            → AreFedFrom self.now.program.listing.steps low walk.place self.now.place) }
     {
         let mut walk = self.copy();
         walk.face_step();
@@ -27,9 +28,14 @@ impl<'a, 'p, A: Allocator + Copy> Walk<'a, 'p, A> {
             None | Some(0) => return None,
             _ => {}
         }
-        while walk.goes_back() {
+        let mut lowest = usize::MAX;
+        while walk.goes_back(fed, &mut lowest) {
             if turn_apart(&walk.place, &later).is_some() {
-                return Some(walk);
+                return if walk.records() <= lowest {
+                    Some(walk)
+                } else {
+                    None
+                };
             }
         }
         None
@@ -81,15 +87,25 @@ impl<'a, 'p, A: Allocator + Copy> Walk<'a, 'p, A> {
         let _ahead = go_to_step::<false, A>(self.text.nodes, &mut self.place);
     }
 
-    // Goes back over the step before, if there is one, and answers whether there is one that isn't feedback.
-    fn goes_back(&mut self) -> bool
+    // Goes back over the step before, if there is one, and keeps the lowest record that feedback depends on. Answers whether
+    // there is one that isn't feedback, or is where some may be `fed` forward.
+    fn goes_back(&mut self, fed: bool, lowest: &mut usize) -> bool
         ensures program { self.new.program ≡ self.old.program }
         ensures back { result ≡ true → self.new.place + 1 ≡ self.old.place }
-        ensures still { result ≡ true
-            → is_feedback (slice_get self.old.program.listing.steps self.new.place) ≡ false }
+        ensures lower { lowest.new ≤ lowest.old }
+        ensures own { result ≡ true
+            → AreFedFrom self.old.program.listing.steps lowest.new self.new.place self.old.place }
+        ensures none { result ≡ true
+            → fed ≡ false
+            → (low : ℕ)
+            → AreFedFrom self.old.program.listing.steps low self.new.place self.old.place }
     {
         match self.previous_step() {
-            None | Some(Step::Feedback { .. }) => false,
+            None => false,
+            Some(Step::Feedback { rec, .. }) => {
+                *lowest = (*lowest).min(rec as usize);
+                fed
+            }
             Some(_) => true,
         }
     }

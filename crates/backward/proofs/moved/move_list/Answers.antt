@@ -7,7 +7,7 @@ pub loop-target-preserved : goal.loop-target-preserved
 loop-target-preserved g c =
     let list = c.args.list.now in
     let i = c.loop-target.target-index in
-    let more = moved_more c.args.detectors c.args.by i list c.loop-target.into.items c.loop-target-test.true c.loop-target.invariant in
+    let more = moved_more c.args.staying c.args.by i list c.loop-target.into.items c.loop-target-test.true c.loop-target.invariant in
     elim c.match-moved_target.branch [
       | in-Some+in_ok-push w ↦ let pushed = more (w.in-Some.moved ∷ []) w.in-Some.ensures in cc (w.in_ok-push.ensures.items)
       | in_default w ↦ let none = more [] w.in_default.ensures in cc (append-nil c.loop-target.into.items)

@@ -17,26 +17,26 @@ use Rattle.backward.proofs.turn_lines.give_turn.Goals.{In_ok-move_list, then-not
 store_is : (g : Over) (c : In_ok-move_list g) → g.L.LineStore.program c.loop-i.lines ≡ c.turn.inside.program.now
 store_is g c = c.loop-i.invariant.program ∙ (c.requires ∙ sym (ap (λ (k : KeptLines). k.program) c.turn.view_is))
 
-moved_is : (g : Over) (c : In_ok-move_list g) → c.move_list.new.into.items ≡ moved_list (length c.turn.inside.program.now.listing.detectors) c.args.by (get_or c.turn.inside.targets c.loop-i.i [])
-moved_is g c = c.in_ok-move_list.ensures ∙ ap₂ (λ (n : ℕ) (l : List ℕ). moved_list n c.args.by l) c.detector_count-detectors.ensures c.get.ensures.value
+moved_is : (g : Over) (c : In_ok-move_list g) → c.move_list.new.into.items ≡ moved_list c.args.staying c.args.by (get_or c.turn.inside.targets c.loop-i.i [])
+moved_is g c = c.in_ok-move_list.ensures ∙ ap (moved_list c.args.staying c.args.by) c.get.ensures.value
 
 pub give-requires-clause-named : goal.give-requires-clause-named
 give-requires-clause-named g c =
     let turn = c.turn.inside in
     let w = (goal.at.give-requires-clause-named g c).In_ok-move_list in
     subst (λ (p : KeptProgram). All (λ t. t < length (targets_of p.listing)) c.as_slice.result.now) (sym (store_is g w))
-    (named_moved turn.program.now turn.entries.items turn.targets (length turn.program.now.listing.detectors) c.args.by c.loop-i.i c.as_slice.result.now c.turn.invariant (omega arith) (c.as_slice.ensures.value ∙ moved_is g w))
+    (named_moved turn.program.now turn.entries.items turn.targets c.args.staying c.args.by c.loop-i.i c.as_slice.result.now c.turn.invariant (omega arith) (c.as_slice.ensures.value ∙ moved_is g w))
 
 -- what a turn of the loop gives
 step : (g : Over) (c : goal.Joined-not-is_empty g)
     → Gives (g.L.LineStore.holds c.loop-i.lines) (g.L.LineStore.holds c.if-not-is_empty.lines)
-    (line_for (kept_at c.turn.inside.program.now (get_or c.turn.inside.entries.items c.loop-i.i 0)).text (moved_list (length c.turn.inside.program.now.listing.detectors) c.args.by (get_or c.turn.inside.targets c.loop-i.i [])))
+    (line_for (kept_at c.turn.inside.program.now (get_or c.turn.inside.entries.items c.loop-i.i 0)).text (moved_list c.args.staying c.args.by (get_or c.turn.inside.targets c.loop-i.i [])))
 step g c =
     let turn = c.turn.inside in
     let at = (goal.at.loop-i-preserved g c).In_ok-move_list in
     let before : List ErrorLine → Type 0 = g.L.LineStore.holds c.loop-i.lines in
     let entry : ℕ = get_or turn.entries.items c.loop-i.i 0 in
-    let moved : List ℕ = moved_list (length turn.program.now.listing.detectors) c.args.by (get_or turn.targets c.loop-i.i []) in
+    let moved : List ℕ = moved_list c.args.staying c.args.by (get_or turn.targets c.loop-i.i []) in
     let line : List ErrorLine = line_for (kept_at turn.program.now entry).text moved in
     elim c.if-not-is_empty.branch [
       | then-not-is_empty+in_ok-give w ↦
@@ -59,13 +59,13 @@ kept_program g c = elim c.if-not-is_empty.branch [
 pub loop-i-preserved : goal.loop-i-preserved
 loop-i-preserved g c =
     let turn = c.turn.inside in
-    let detectors = length turn.program.now.listing.detectors in
+    let staying = c.args.staying in
     record {
       program = kept_program g c;
       gives =
           subst (Gives (g.L.LineStore.holds c.args.lines.now) (g.L.LineStore.holds c.if-not-is_empty.lines))
-          (sym (moved_more_lines turn.program.now turn.entries.items turn.targets detectors c.args.by c.loop-i.i c.turn.invariant (omega arith)))
+          (sym (moved_more_lines turn.program.now turn.entries.items turn.targets staying c.args.by c.loop-i.i c.turn.invariant (omega arith)))
           (gives_then (g.L.LineStore.holds c.args.lines.now) (g.L.LineStore.holds c.loop-i.lines) (g.L.LineStore.holds c.if-not-is_empty.lines)
-          (moved_error_lines detectors c.args.by (kept_lines turn.program.now (take c.loop-i.i turn.entries.items) (take c.loop-i.i turn.targets)))
-          (line_for (kept_at turn.program.now (get_or turn.entries.items c.loop-i.i 0)).text (moved_list detectors c.args.by (get_or turn.targets c.loop-i.i []))) c.loop-i.invariant.gives (step g c));
+          (moved_error_lines staying c.args.by (kept_lines turn.program.now (take c.loop-i.i turn.entries.items) (take c.loop-i.i turn.targets)))
+          (line_for (kept_at turn.program.now (get_or turn.entries.items c.loop-i.i 0)).text (moved_list staying c.args.by (get_or turn.targets c.loop-i.i []))) c.loop-i.invariant.gives (step g c));
     }

@@ -1,4 +1,4 @@
-use Rattle.std.proofs.Common.{◌≡◌, length}
+use Rattle.std.proofs.Common.{◌≡◌}
 use Rattle.backward.specs.private.TurnLines.{GivesTurns}
 use Rattle.backward.proofs.turn_lines.give_turns.Given as goal
 
@@ -7,5 +7,5 @@ abbrev pub invariant-loop-turns : goal.invariant-loop-turns
 invariant-loop-turns g l =
     record {
       program : g.L.LineStore.program l.lines ≡ g.L.LineStore.program l.fn.lines;
-      gives : GivesTurns (g.L.LineStore.holds l.fn.lines) (g.L.LineStore.holds l.lines) (length l.turn.program.listing.detectors) l.by l.first l.turns l.turn.lines;
+      gives : GivesTurns (g.L.LineStore.holds l.fn.lines) (g.L.LineStore.holds l.lines) l.shift.staying l.shift.by l.first l.turns l.turn.lines;
     }

@@ -11,7 +11,7 @@ invariant-loop-left g l =
       none : l.lines.text.text ≡ [];
       below : l.left ≤ l.turns;
       front : List ℕ;
-      whole : front ++ turns_text l.turn l.by l.left ≡ turns_text l.turn l.by l.turns;
+      whole : front ++ turns_text l.turn l.shift.staying l.shift.by l.left ≡ turns_text l.turn l.shift.staying l.shift.by l.turns;
       pushed : Pushes (g.W.Sink.taken) (g.W.Sink.failures) l.fn.sink l.sink l.fn.out l.out front;
     }
 

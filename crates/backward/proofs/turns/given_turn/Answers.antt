@@ -1,4 +1,4 @@
-use Rattle.std.proofs.Common.{◌≡◌, ◌∙◌, ℕ, List, length, reverse, ap, subst, sym}
+use Rattle.std.proofs.Common.{◌≡◌, ◌∙◌, ℕ, List, reverse, ap, subst, sym}
 use Rattle.step_model.specs.ErrorModels.{ErrorLine}
 use Rattle.backward.specs.private.Stretches.{Gives, lines_between}
 use Rattle.backward.specs.private.TurnLines.{moved_error_lines}
@@ -11,10 +11,10 @@ pub returns-clause-lines : goal.returns-clause-lines
 returns-clause-lines g c =
     let program = c.args.program.now.listing in
     let turn = c.find_turn.new.lines in
-    let detectors : ℕ = length turn.program.listing.detectors in
+    let staying : ℕ = 0 in
     let start = c.find_turn.new.at.walk.place in
     let to = c.args.at.now.walk.place in
     let lines : List ErrorLine = lines_between program start to in
-    let unmoved : moved_error_lines detectors 0 turn.lines ≡ reverse lines =
-    ap (moved_error_lines detectors 0) c.in_ok-find_turn.ensures.lines ∙ (sym (moved_error_lines-reverse detectors 0 lines) ∙ ap (reverse {A = ErrorLine}) (between_unmoved program detectors start to)) in
+    let unmoved : moved_error_lines staying 0 turn.lines ≡ reverse lines =
+    ap (moved_error_lines staying 0) c.in_ok-find_turn.ensures.lines ∙ (sym (moved_error_lines-reverse staying 0 lines) ∙ ap (reverse {A = ErrorLine}) (between_unmoved program staying start to)) in
     subst (Gives (g.L.LineStore.holds c.args.lines.now) (g.L.LineStore.holds c.give_turn.new.lines)) unmoved c.in_ok-give_turn.ensures.holds

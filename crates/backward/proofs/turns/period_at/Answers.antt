@@ -1,12 +1,15 @@
-use Rattle.std.proofs.Common.{◌≡◌, ◌+◌, ◌-◌, ℕ, true, [], get_or, length, take, ap, ap₂, subst, ◌∙◌, arith}
+use Rattle.std.proofs.Common.{◌≡◌, ◌+◌, ℕ, true, false, length, take, ap, ap₂, subst, ◌∙◌, arith}
 use Rattle.std.proofs.lemmas.Bool.Decides.{nat_tests}
 use Rattle.step_model.specs.WellFormed.{records_made}
-use Rattle.step_model.specs.TargetSets.{members}
 use Rattle.programs.specs.Kept.{KeptProgram}
-use Rattle.backward.specs.private.MovedTargets.{moved_list, moved_lists}
-use Rattle.backward.specs.private.Passes.{records_before}
-use Rattle.backward.specs.private.Repeats.{AreRepeated}
+use Rattle.backward.specs.private.MovedTargets.{IsShiftOf, earlier_list, list_then}
+use Rattle.step_model.specs.Targets.{targets_of}
+use Rattle.backward.specs.private.Passes.{HoldsLists, records_before}
 use Rattle.backward.proofs.TurnPasses.{moved_first, none_noted}
+use Rattle.backward.specs.private.Stretches.{lines_between}
+use Rattle.backward.specs.private.TurnLines.{AreClear}
+use Rattle.backward.proofs.TurnLineLemmas.{clear-reverse}
+use Rattle.backward.proofs.TurnLists.{repeated_there}
 use Rattle.backward.proofs.turns.period_at.Goals as goal
 
 pub returns-clause-period : goal.returns-clause-period
@@ -17,29 +20,30 @@ returns-clause-period g c =
     let found = c.args.found.now in
     let is = c.requires.point in
     let later_is = c.requires.later in
-    let by = c.detectors_moved-by.result in
+    let shift = c.guessed_shift-shift.result in
     let made : ℕ → KeptProgram → ℕ = λ k p. length (records_made (take k p.listing.steps)) in
-    let detectors : c.detector_count-detectors.result ≡ length program.listing.detectors = c.detector_count-detectors.ensures in
     let end : c.records-end.result ≡ records_before program.listing point.walk.place = c.records-end.ensures ∙ ap (made point.walk.place) is.program_is in
-    let later_end : c.records.result ≡ records_before program.listing later.walk.place = c.records.ensures ∙ ap (made later.walk.place) later_is.program_is in
-    let later_known : c.records-2.result ≡ records_before program.listing later.walk.place = c.records-2.ensures ∙ ap (made later.walk.place) later_is.program_is in
-    let records : c.saturating_sub-records.result ≡ records_before program.listing later.walk.place - records_before program.listing point.walk.place =
-    c.saturating_sub-records.ensures ∙ ap₂ (λ (m n : ℕ). m - n) later_end end in
     let none : length found.latest.items ≡ 0 = grind (arith, nat_tests, c.is_random.ensures, c.if-is_random.false) in
-    let each : AreRepeated program.listing found.lists c.repeated_from-low.result c.records-end.result c.saturating_sub-records.result by =
-    λ r low high. c.repeated_from-low.ensures.each r low high ∙ ap (λ n. moved_list n by (members (get_or found.lists (r + c.saturating_sub-records.result) []))) detectors in
-    let moved : c.are_moved.result ≡ true = grind (arith, c.if-not-are_moved.false) in
+    let unsettled : found.settled ≡ false = grind (arith, c.if-found.false) in
+    let lists : HoldsLists program.listing false point.walk.place found.known found.lists = subst (λ b. HoldsLists program.listing b point.walk.place found.known found.lists) unsettled c.requires.known.lists in
+    let shift_is : IsShiftOf (length program.listing.detectors) (length (targets_of program.listing)) shift = subst (λ n. IsShiftOf n (length (targets_of program.listing)) shift) c.detector_count.ensures
+    (subst (λ n. IsShiftOf c.detector_count.result n shift) c.target_count-targets.ensures.count c.guessed_shift-shift.ensures) in
+    let earlier : c.are_earlier.result ≡ true = grind (arith, c.if-not-are_earlier.false) in
+    let clear : AreClear shift (lines_between program.listing point.walk.place later.walk.place) =
+    clear-reverse shift (lines_between program.listing point.walk.place later.walk.place) (subst (AreClear shift) c.requires.lines (c.are_clear.ensures (grind (arith, c.if-not-are_clear.false)))) in
     record {
       point = is;
       later_is = later_is.program_is;
       within = later_is.within;
       earlier = c.requires.earlier;
-      still = c.requires.still;
-      moved = moved_first program.listing point.lists later.lists point.walk.place later.walk.place by is.words later_is.words (c.are_moved.ensures moved ∙ ap (λ n. moved_lists n by later.lists) detectors);
-      lists = c.requires.known.lists;
+      shift = shift_is;
+      turn = c.requires.turn;
+      moved = moved_first program.listing shift shift_is point.lists later.lists point.walk.place later.walk.place is.words later_is.words (c.are_earlier.ensures earlier);
+      unsettled = unsettled;
+      lists = lists;
       none_latest = none;
-      none_placed = none_noted program.listing found.settled point.walk.place found.latest.items found.left none c.requires.known.judged;
-      repeated = subst (λ n. AreRepeated program.listing found.lists c.repeated_from-low.result n (records_before program.listing later.walk.place - records_before program.listing point.walk.place) by) end
-          (subst (λ n. AreRepeated program.listing found.lists c.repeated_from-low.result c.records-end.result n by) records each);
-      known = omega (arith, c.if-records-found.false, later_known);
+      none_placed = none_noted program.listing found.settled point.walk.place found.latest.items found.left none c.requires.known.judged unsettled;
+      repeated = repeated_there program.listing point.walk.place later.walk.place found.known found.lists c.args.listed.now shift c.repeated_from-low.result lists c.requires.turn.own later_is.within (omega (arith, c.requires.earlier)) (c.requires.listed unsettled)
+          (λ r low high. c.repeated_from-low.ensures.each r low (omega (arith, high, end)) ∙ ap (λ e. earlier_list shift (list_then found.lists e c.args.listed.now (r + length c.args.listed.now))) end);
+      clear = clear;
     }

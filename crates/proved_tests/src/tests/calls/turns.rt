@@ -33,7 +33,7 @@ fn walk_at<'a, 'p>(program: &'a Program<'p, Global>, place: usize) -> Walk<'a, '
 
 // What a row says of a place, to this bound.
 fn turns_before(later: &Walk<'_, '_, Global>, bound: usize) -> Option<[usize; 6]> {
-    let mut walk = later.turn_before()?;
+    let mut walk = later.turn_before(true)?;
     let place = walk.place();
     if place < bound {
         return None;

@@ -1,6 +1,5 @@
 use Rattle.std.proofs.Common.{◌≡◌, ℕ, false, ◌<◌, ◌≤◌}
-use Rattle.std.specs.Prelude.{slice_get}
-use Rattle.programs.specs.Walks.{is_feedback}
+use Rattle.programs.specs.Turns.{AreFedFrom}
 use Rattle.programs.proofs.walk.Walk.turn_before.Given as goal
 
 abbrev pub invariant-loop-walk : goal.invariant-loop-walk
@@ -8,7 +7,8 @@ invariant-loop-walk g l =
     record {
       program_is : l.walk.program ≡ l.fn.self.program;
       before : l.walk.place ≤ l.fn.self.place;
-      still : (k : ℕ) → l.walk.place ≤ k → k < l.fn.self.place → is_feedback (slice_get l.fn.self.program.listing.steps k) ≡ false;
+      own : AreFedFrom l.fn.self.program.listing.steps l.lowest l.walk.place l.fn.self.place;
+      none : l.fn.fed ≡ false → (low : ℕ) → AreFedFrom l.fn.self.program.listing.steps low l.walk.place l.fn.self.place;
     }
 
 abbrev pub decreases-loop-walk : goal.decreases-loop-walk
