@@ -1,21 +1,20 @@
 -- What is kept of going back to a place, where turns that repeat were gone back over at once.
 use Rattle.std.proofs.Common.{◌≡◌, ◌||◌, ◌⊎◌, ℕ, zero, suc, ◌+◌, ◌-◌, ◌*◌, ◌<◌, ◌≤◌, Bool, true, false, List, [], ◌∷◌, ◌++◌, map, length, drop, get_or, Option, None, Some, inl, inr, refl, ap, ap₂, subst, sym, ◌∙◌, arith}
-use Rattle.std.specs.Prelude.{All, option_map, slice_get, replicate, take}
+use Rattle.std.specs.Prelude.{All, option_map, replicate, take}
 use Rattle.std.specs.List.{range_with_len}
 use Rattle.std.proofs.lemmas.Bool.{cases_lt, ne_eqb}
 use Rattle.std.proofs.lemmas.Bool.Decides.{nat_tests}
 use Rattle.std.proofs.lemmas.List.{get_or-replicate, get_or_past, length-append, length-replicate, take-append-drop}
 use Rattle.std.proofs.lemmas.List.FromFn.{length-map-range_with_len, get_or-map-range_with_len, fill_by_all}
-use Rattle.std.proofs.lemmas.Option.{slice_get-get_or}
 use Rattle.pauli_word.specs.Words.{anticommute, no_letters}
 use Rattle.pauli_word.proofs.WordLaws.{anticommute_comm, anticommute_of_none}
-use Rattle.step_model.specs.Listing.{Listing, ListedStep, One, Two, Collapse, Fault, Feedback, Measured, Recorded}
-use Rattle.step_model.specs.Sensitivities.{collapse_word, latest_place, later_or_here, record_counts}
+use Rattle.step_model.specs.Listing.{Listing, ListedStep}
+use Rattle.step_model.specs.Sensitivities.{collapse_word, latest_place, later_or_here}
 use Rattle.step_model.specs.Targets.{is_listed, target_at, targets_of}
 use Rattle.step_model.specs.TargetSets.{members}
 use Rattle.step_model.specs.WellFormed.{IsWellFormed, collapse_count, step_faults}
 use Rattle.step_model.proofs.MemberLemmas.{among_members, map_range_below, members_within}
-use Rattle.programs.specs.Turns.{Repeat, moved_recorded, moved_step}
+use Rattle.programs.specs.Turns.{Repeat, moved_step}
 use Rattle.record_targets.specs.ListingSets.{listing_set, sensitivity_before}
 use Rattle.trackers.specs.Tracked.{Tracked, is_among, listed_word, restored}
 use Rattle.backward.specs.declared.moved.Shift.{Shift}

@@ -1,14 +1,14 @@
 -- Turns of a block that repeat: how many records they make, and the lists of records that feedback there doesn't change.
-use Rattle.std.proofs.Common.{◌≡◌, ℕ, zero, suc, ◌+◌, ◌-◌, ◌*◌, ◌<◌, ◌≤◌, List, ◌∷◌, length, drop, Option, None, Some, inl, inr, refl, ap, subst, sym, ◌∙◌, arith}
+use Rattle.std.proofs.Common.{◌≡◌, ℕ, zero, suc, ◌+◌, ◌-◌, ◌*◌, ◌<◌, ◌≤◌, List, ◌∷◌, length, drop, None, Some, inl, inr, refl, ap, subst, ◌∙◌, arith}
 use Rattle.std.specs.Prelude.{option_map, slice_get}
 use Rattle.std.proofs.lemmas.Bool.{cases_lt}
 use Rattle.std.proofs.lemmas.Option.{slice_get-get_or}
 use Rattle.pauli_word.specs.declared.letter.Letter.{Letter}
-use Rattle.step_model.specs.Listing.{Listing, ListedStep, One, Two, Collapse, Fault, Feedback, Recorded, step_records}
+use Rattle.step_model.specs.Listing.{Listing, ListedStep, One, Two, Collapse, Fault, Feedback, step_records}
 use Rattle.programs.specs.Turns.{AreFedFrom, Repeat, moved_step}
 use Rattle.record_targets.specs.ListingSets.{listing_set}
 use Rattle.backward.specs.private.Passes.{records_before}
-use Rattle.backward.proofs.PassRecords.{records_before-earlier, records_before-more}
+use Rattle.backward.proofs.PassRecords.{records_before-more}
 use Rattle.backward.proofs.PassSets.{listing_set-other}
 use Rattle.backward.proofs.TurnLemmas.{front, moved_at, step_of}
 

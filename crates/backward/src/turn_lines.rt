@@ -1,6 +1,6 @@
 //! The error lines of a turn of a REPEAT block, kept, and the text of those of the turns before it, which repeat them: the same
 //! lines with targets that are some detectors earlier.
-ghost use Rattle.std.specs.Prelude.{◌≡◌, ◌*◌, ◌<◌, ◌≤◌, ◌++◌, ◌∷◌, [], length, true, OnErr, OnOk};
+ghost use Rattle.std.specs.Prelude.{◌≡◌, ◌*◌, ◌<◌, ◌≤◌, ◌++◌, ◌∷◌, [], true, OnErr, OnOk};
 ghost use Rattle.step_model.specs.Pushed.{Pushes};
 ghost use Rattle.backward.specs.private.Points.{PushesSome};
 ghost use Rattle.backward.specs.private.Stretches.{Gives};

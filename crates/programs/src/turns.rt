@@ -1,5 +1,5 @@
 //! Turns of a block that a walk passes at once.
-ghost use Rattle.std.specs.Prelude.{◌≡◌, ◌+◌, ◌-◌, ◌*◌, ◌<◌, ◌≤◌, ℕ, true, false, [], ◌∷◌, IfSome, slice_get};
+ghost use Rattle.std.specs.Prelude.{◌≡◌, ◌+◌, ◌-◌, ◌*◌, ◌<◌, ◌≤◌, ℕ, true, false, [], ◌∷◌, IfSome};
 ghost use Rattle.programs.specs.Turns.{AreFedFrom, Repeat, RepeatFaults, records_before, faults_before};
 ghost use Rattle.programs.specs.private.Turns.{AreTurnApart, GrowBy, GrowsBy, count_back, counts_back};
 

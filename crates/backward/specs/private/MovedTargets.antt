@@ -1,7 +1,7 @@
 -- Lists of targets a number of turns of a REPEAT block earlier, where each turn has as many detectors. The targets from one on
 -- stay: those are observables, and detectors that the turns don't know. A detector whose later one stays is like that one in every
 -- turn. (How they are compared is this project's own.)
-use Rattle.std.specs.Prelude.{◌≡◌, ◌<◌, ◌≤◌, ℕ, zero, suc, ◌+◌, ◌-◌, ◌*◌, nat_lt, ◌&&◌, not, min, Bool, false, List, [], ◌∷◌, ◌++◌, All, map, length, if◌then◌else◌, slice_index_or}
+use Rattle.std.specs.Prelude.{◌≡◌, ◌≤◌, ℕ, zero, suc, ◌+◌, ◌-◌, ◌*◌, nat_lt, ◌&&◌, not, min, Bool, false, List, [], ◌∷◌, ◌++◌, All, map, if◌then◌else◌, slice_index_or}
 use Rattle.step_model.specs.TargetSets.{members}
 use Rattle.backward.specs.declared.moved.Shift.{Shift}
 

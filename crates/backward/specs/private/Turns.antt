@@ -1,6 +1,6 @@
 -- Turns of a block that repeat the one behind them, on the way back over a stretch of steps: they are gone back over at once, and the
 -- lines of that turn are kept for them. (Gidney, Quantum 5, 497 (2021): errors of a block's turns are found once.)
-use Rattle.std.specs.Prelude.{◌≡◌, ℕ, ◌-◌, ◌*◌, ◌^◌, ◌<◌, ◌≤◌, false, length, reverse, Result, OnOk}
+use Rattle.std.specs.Prelude.{◌≡◌, ℕ, ◌*◌, ◌^◌, ◌<◌, ◌≤◌, false, length, reverse, Result, OnOk}
 use Rattle.step_model.specs.Listing.{Listing}
 use Rattle.programs.specs.Kept.{KeptProgram}
 use Rattle.trackers.specs.Tracked.{Tracked}
@@ -10,7 +10,7 @@ use Rattle.backward.specs.declared.turns.KeptTurns.{KeptTurns}
 use Rattle.backward.specs.declared.turns.Period.{Period}
 use Rattle.step_model.specs.Targets.{targets_of}
 use Rattle.backward.specs.private.MovedTargets.{IsShiftOf}
-use Rattle.backward.specs.private.Passes.{HoldsLists, IsJudged, IsPassed, Stays, records_before}
+use Rattle.backward.specs.private.Passes.{HoldsLists, IsJudged, IsPassed, Stays}
 use Rattle.backward.specs.private.Points.{IsPointOf}
 use Rattle.backward.specs.private.Repeats.{AreMoved, AreRepeated, IsTurn, NonePlaced}
 use Rattle.backward.specs.private.Stretches.{lines_between}

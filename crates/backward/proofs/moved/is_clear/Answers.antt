@@ -1,8 +1,8 @@
-use Rattle.std.proofs.Common.{◌≡◌, ◌≤◌, ℕ, ◌+◌, false, ◌∷◌, [], ◌++◌, length, get_or, take, ap, subst, sym, ◌∙◌, arith}
+use Rattle.std.proofs.Common.{◌≡◌, ℕ, ◌+◌, false, get_or, take, subst, sym, arith}
 use Rattle.std.specs.Prelude.{All}
 use Rattle.std.proofs.lemmas.List.{take_all, take_more}
 use Rattle.std.proofs.lemmas.List.Elements.{All-push}
-use Rattle.backward.specs.private.MovedTargets.{IsClear, is_within, window_end}
+use Rattle.backward.specs.private.MovedTargets.{is_within, window_end}
 use Rattle.backward.proofs.GrownLists.{is_high, is_low}
 use Rattle.backward.proofs.moved.is_clear.Goals as goal
 use Rattle.backward.proofs.moved.is_clear.Goals.{else-shift-target-via-then-shift-target+else-target-end, else-shift-target-via-else-shift-target}

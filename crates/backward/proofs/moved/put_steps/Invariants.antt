@@ -1,4 +1,4 @@
-use Rattle.std.proofs.Common.{◌≡◌, ◌≤◌, ◌++◌, List, ℕ}
+use Rattle.std.proofs.Common.{◌≡◌, ◌≤◌, ◌++◌}
 use Rattle.backward.specs.private.MovedTargets.{steps_before}
 use Rattle.backward.proofs.moved.put_steps.Given as goal
 

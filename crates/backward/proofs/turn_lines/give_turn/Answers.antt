@@ -1,4 +1,4 @@
-use Rattle.std.proofs.Common.{◌≡◌, ℕ, rules, ◌==◌, false, ◌<◌, List, [], length, get_or, take, ap, ap₂, subst, sym, ◌∙◌, arith}
+use Rattle.std.proofs.Common.{◌≡◌, ℕ, rules, ◌==◌, false, ◌<◌, List, [], length, get_or, take, ap, subst, sym, ◌∙◌, arith}
 use Rattle.std.specs.Prelude.{All}
 use Rattle.std.proofs.lemmas.List.{get_or_default}
 use Rattle.programs.specs.Kept.{KeptProgram, kept_at}

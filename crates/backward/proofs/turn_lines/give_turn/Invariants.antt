@@ -1,4 +1,4 @@
-use Rattle.std.proofs.Common.{◌≡◌, length, take}
+use Rattle.std.proofs.Common.{◌≡◌, take}
 use Rattle.backward.specs.private.Stretches.{Gives}
 use Rattle.backward.specs.private.TurnLines.{kept_lines, moved_error_lines}
 use Rattle.backward.proofs.turn_lines.give_turn.Given as goal

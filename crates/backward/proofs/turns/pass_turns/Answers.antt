@@ -1,11 +1,9 @@
-use Rattle.std.proofs.Common.{◌≡◌, ℕ, ◌∙◌, Bool, reverse, ap, subst, sym, arith}
-use Rattle.step_model.specs.Listing.{Listing}
+use Rattle.std.proofs.Common.{◌≡◌, ◌∙◌, reverse, ap, subst, sym, arith}
 use Rattle.programs.specs.Kept.{KeptProgram}
-use Rattle.backward.specs.private.Passes.{HoldsLists, records_before}
-use Rattle.backward.specs.private.Repeats.{AreListed, IsTurn}
+use Rattle.backward.specs.private.Passes.{records_before}
+use Rattle.backward.specs.private.Repeats.{IsTurn}
 use Rattle.backward.specs.private.Stretches.{lines_between}
 use Rattle.backward.proofs.PassRecords.{records_before-earlier}
-use Rattle.backward.proofs.TurnLists.{listed_there}
 use Rattle.backward.proofs.turns.pass_turns.Given.{Over}
 use Rattle.backward.proofs.turns.pass_turns.Goals as goal
 use Rattle.backward.proofs.turns.pass_turns.Goals.{After-records-records}

@@ -1,4 +1,4 @@
-use Rattle.std.proofs.Common.{ℕ, ap, subst, sym, ◌∙◌}
+use Rattle.std.proofs.Common.{ap, subst, sym}
 use Rattle.std.specs.Prelude.{not}
 use Rattle.programs.specs.Turns.{AreFedFrom}
 use Rattle.backward.specs.private.Passes.{records_before}

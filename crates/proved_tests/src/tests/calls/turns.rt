@@ -17,7 +17,8 @@ X 0 | X 0 | REPEAT 2 { | X 0 | } = 10 = -
 REPEAT 3 { | X 0 | } | M 0 | X 0 = 40 = -
 # behind a block in a turn, and in it | REPEAT 3 { | REPEAT 2 { | X 0 | } | M 0 | } = 80 = 511120
 REPEAT 3 { | REPEAT 2 { | X 0 | } | M 0 | } = 70 = -
-M 0 | REPEAT 4 { | CX rec[-1] 0 | M 0 | } = 70 = -
+# feedback by a record of the turn before | M 0 | REPEAT 4 { | CX rec[-1] 0 | M 0 | } = 70 = -
+# and of the turn | M 0 | REPEAT 4 { | CX rec[-1] 0 | M 0 | } = 80 = 633221
 # a reset is a collapse without a record | REPEAT 4 { | R 0 | M 0 | } = 60 = 424200
 REPEAT 3 { | X_ERROR(1) 0 1 | M 0 | } = 60 = 311100
 ";
@@ -85,5 +86,5 @@ fn turns_are_passed(rt: HostRuntime) {
     for row in TURNS.lines() {
         assert!(rt; matches!(row_holds(rt.alloc(), row), Ok(true)), "{row}");
     }
-    assert!(rt; TURNS.lines().count() == 10);
+    assert!(rt; TURNS.lines().count() == 11);
 }

@@ -1,5 +1,4 @@
 use Rattle.std.proofs.Common.{List, ℤ, [], length, get_or, reverse, ap, sym, ◌∙◌, arith}
-use Rattle.flat_lists.specs.private.Repeats.{unrolled}
 use Rattle.flat_lists.proofs.RepeatLemmas.{none-at}
 use Rattle.flat_lists.proofs.number_lists.NumberLists.put.Goals as goal
 

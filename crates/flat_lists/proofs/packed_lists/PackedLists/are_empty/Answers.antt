@@ -1,4 +1,4 @@
-use Rattle.std.proofs.Common.{◌≡◌, ℕ, ℤ, [], List, map, ap, subst}
+use Rattle.std.proofs.Common.{◌≡◌, ℕ, ℤ, [], List, ap, subst}
 use Rattle.std.specs.Prelude.{All}
 use Rattle.std.proofs.lemmas.List.Elements.{All-map, All-weaker}
 use Rattle.flat_lists.specs.private.Numbers.{numbers_in}

@@ -1,4 +1,4 @@
-use Rattle.std.proofs.Common.{◌≡◌, ℕ, false, ◌<◌, ◌≤◌}
+use Rattle.std.proofs.Common.{◌≡◌, ℕ, false, ◌≤◌}
 use Rattle.programs.specs.Turns.{AreFedFrom}
 use Rattle.programs.proofs.walk.Walk.turn_before.Given as goal
 
