@@ -113,6 +113,31 @@ fn is_clear(list: &[u32], shift: &Shift) -> bool
     true
 }
 
+/// How many targets more lists have so many turns earlier.
+pub(crate) fn growth<A: Allocator + Copy>(
+    lists: &FlatLists<u32, A>,
+    turns: usize,
+    shift: &Shift,
+) -> usize {
+    let mut count: usize = 0;
+    for i in 0..lists.len() {
+        count = count.saturating_add(first_count(lists.get(i), shift));
+    }
+    count.saturating_mul(turns)
+}
+
+// How many of the first detectors that stay a list has.
+fn first_count(list: &[u32], shift: &Shift) -> usize {
+    let end = shift.window_end();
+    let mut count: usize = 0;
+    for target in list {
+        if shift.staying <= *target as usize && (*target as usize) < end {
+            count = count.saturating_add(1);
+        }
+    }
+    count
+}
+
 /// Lists of targets so many turns earlier.
 pub(crate) fn grown_lists<A: Allocator + Copy>(
     alloc: A,

@@ -11,7 +11,7 @@ ghost use Rattle.backward.specs.private.Turns.{AreGonePast, AreKept, ArePassed, 
 
 use crate::found::Found;
 use crate::line_store::LineStore;
-use crate::moved::{Shift, are_earlier, grown_lists};
+use crate::moved::{Shift, are_earlier, grown_lists, growth};
 use crate::pass::steps_back;
 use crate::point::{KeptPoint, Point};
 use crate::points::kept_point;
@@ -25,6 +25,10 @@ use trackers::Tracker;
 
 /// After how many steps it is asked whether there is room for more lines, at most.
 const STRIDE: usize = 16;
+
+/// How many targets the words of an earlier turn may have more than those of a later one, at most, for the turns between to be gone
+/// back over at once: each is kept in memory.
+const MOST_GROWN: usize = 1 << 20;
 
 /// After how many steps it is looked again for a turn, where there is none.
 const FAR: usize = 512;
@@ -201,6 +205,9 @@ fn period_at<'s, 'p, 'a, A: Allocator + Copy>(
     } else {
         (end - low) / records
     };
+    if growth(&point.lists, turns, &shift) > MOST_GROWN {
+        return None;
+    }
     Some(Period {
         point,
         later,

@@ -18,8 +18,7 @@ const MOST_READ: usize = 1 << 18;
 const READ_A_STEP: usize = 16;
 
 /// A tracker that answers as where memory runs out once its words have too many letters, or too many were gone over: for who has
-/// another way where the words of targets are long. It counts them by the lists that its tracker keeps. Words that are
-/// restored are taken to have as many as those before, as where turns that repeat were gone past.
+/// another way where the words of targets are long. It counts them by the lists that its tracker keeps.
 #[derive(Drop)]
 pub(crate) struct Limited<T> {
     tracker: T,
@@ -95,6 +94,15 @@ fn hit_count<T: Tracker>(tracker: &T, term: Term) -> usize
     tracker.kept_hit(&[term]).map_or(0, |hit| hit.len())
 }
 
+/// How many letters words have that are kept as lists.
+fn letter_count<A: Allocator + Copy>(lists: &FlatLists<u32, A>) -> usize {
+    let mut count: usize = 0;
+    for i in 0..lists.len() {
+        count = count.saturating_add(lists.get(i).len());
+    }
+    count
+}
+
 impl<T: Tracker> Tracker for Limited<T> {
     ghost tracked = { λ limited. T.tracked limited.tracker };
 
@@ -106,6 +114,8 @@ impl<T: Tracker> Tracker for Limited<T> {
         &mut self,
         lists: &FlatLists<u32, B>,
     ) -> Result<(), AllocError> {
+        let before = self.held;
+        self.count_replaced(before, letter_count(lists))?;
         self.tracker.restore(lists)
     }
 
