@@ -13,35 +13,28 @@ use Rattle.backward.specs.private.Repeats.{AreListed, AreRepeated}
 use Rattle.backward.proofs.PassRecords.{records_before-earlier}
 use Rattle.backward.proofs.TurnRecords.{lists_stay}
 
-module _ (program : Listing) (place later known : ℕ) (sets : List (List Bool)) where
-  -- those that are held at the later place
-  pub listed_there : (kept : List (List ℕ)) → HoldsLists program false later known sets → length kept ≡ records_before program later - records_before program place
-      → ((r : ℕ) → records_before program place ≤ r → r < records_before program later → get_or kept (r - records_before program place) [] ≡ members (get_or sets r [])) → AreListed program place later kept
-  listed_there kept h count each =
+module _ (program : Listing) (place later known : ℕ) (sets : List (List Bool)) (kept : List (List ℕ)) (s : Shift) (low : ℕ) (h : HoldsLists program false place known sets)
+    (own : AreFedFrom program.steps (records_before program place) place later) (within : later ≤ length program.steps) (earlier : place ≤ later) (is : AreListed program place later kept) where
+  abbrev pub end : ℕ
+  end = records_before program place
+
+  -- the list of a record one turn later
+  then_is : (r : ℕ) → r < records_before program later → list_then sets end kept r ≡ members (listing_set program (drop later program.steps) r)
+  then_is r lt = by_test (nat_lt r end) refl
+    where
+      by_test : (b : Bool) → nat_lt r end ≡ b → (if b then members (get_or sets r []) else get_or kept (r - end) []) ≡ members (listing_set program (drop later program.steps) r)
+      by_test true e =
+          let below : r < end = ltb-true r end e in
+          let enough = h.enough in
+          ap members (h.rows r (omega (arith, below, enough)) ∙ lists_stay program end place later r own within earlier below)
+      by_test false e = is.each r (ltb-false r end e) lt
+
+  pub repeated_there : ((r : ℕ) → low ≤ r → r < end → members (get_or sets r []) ≡ earlier_list s (list_then sets end kept (r + length kept))) → AreRepeated program s low place later
+  repeated_there each r above below =
+      let up = records_before-earlier program place later earlier in
+      let count = is.count in
       let enough = h.enough in
-      record { count = count; each = λ r le lt. each r le lt ∙ ap members (h.rows r (omega (arith, lt, enough))) }
-
-  module _ (kept : List (List ℕ)) (s : Shift) (low : ℕ) (h : HoldsLists program false place known sets) (own : AreFedFrom program.steps (records_before program place) place later) (within : later ≤ length program.steps) (earlier : place ≤ later) (is : AreListed program place later kept) where
-    abbrev pub end : ℕ
-    end = records_before program place
-
-    -- the list of a record one turn later
-    then_is : (r : ℕ) → r < records_before program later → list_then sets end kept r ≡ members (listing_set program (drop later program.steps) r)
-    then_is r lt = by_test (nat_lt r end) refl
-      where
-        by_test : (b : Bool) → nat_lt r end ≡ b → (if b then members (get_or sets r []) else get_or kept (r - end) []) ≡ members (listing_set program (drop later program.steps) r)
-        by_test true e =
-            let below : r < end = ltb-true r end e in
-            let enough = h.enough in
-            ap members (h.rows r (omega (arith, below, enough)) ∙ lists_stay program end place later r own within earlier below)
-        by_test false e = is.each r (ltb-false r end e) lt
-
-    pub repeated_there : ((r : ℕ) → low ≤ r → r < end → members (get_or sets r []) ≡ earlier_list s (list_then sets end kept (r + length kept))) → AreRepeated program s low place later
-    repeated_there each r above below =
-        let up = records_before-earlier program place later earlier in
-        let count = is.count in
-        let enough = h.enough in
-        sym (ap members (h.rows r (omega (arith, below, enough))))
-        ∙ (each r above below
-        ∙ (ap (earlier_list s) (then_is (r + length kept) (omega (arith, below, count, up)))
-        ∙ ap (λ n. earlier_list s (members (listing_set program (drop later program.steps) (r + n)))) count))
+      sym (ap members (h.rows r (omega (arith, below, enough))))
+      ∙ (each r above below
+      ∙ (ap (earlier_list s) (then_is (r + length kept) (omega (arith, below, count, up)))
+      ∙ ap (λ n. earlier_list s (members (listing_set program (drop later program.steps) (r + n)))) count))

@@ -4,7 +4,7 @@ use Rattle.std.specs.Prelude.{All, option_map, replicate, take}
 use Rattle.std.specs.List.{range_with_len}
 use Rattle.std.proofs.lemmas.Bool.{cases_lt, ne_eqb}
 use Rattle.std.proofs.lemmas.Bool.Decides.{nat_tests}
-use Rattle.std.proofs.lemmas.List.{get_or-replicate, get_or_past, length-append, length-replicate, take-append-drop}
+use Rattle.std.proofs.lemmas.List.{get_or-replicate, get_or_past, length-replicate, take-append-drop}
 use Rattle.std.proofs.lemmas.List.FromFn.{length-map-range_with_len, get_or-map-range_with_len, fill_by_all}
 use Rattle.pauli_word.specs.Words.{anticommute, no_letters}
 use Rattle.pauli_word.proofs.WordLaws.{anticommute_comm, anticommute_of_none}
@@ -59,9 +59,6 @@ module _ (program : Listing) where
   within_targets s shift (suc n) d le =
       within_targets s shift n (later_target s d)
       (let top = shift.few in let is = shift.targets_is in grind (arith, nat_tests, le, top, is))
-
-  detectors_within : length program.detectors ≤ target_count
-  detectors_within = let long = length-append program.detectors program.observables in omega (arith, long)
 
   none_among : (ts : List ℕ) (t targets : ℕ) → All (λ u. u < targets) ts → targets ≤ t → is_among ts t ≡ false
   none_among [] t targets all le = refl
