@@ -3,7 +3,8 @@ ones. The error models are found by following each fault forward, for which a tu
 from frame_models import write_model
 from program import ProgramTest
 
-TURNS = 60
+# So many that half of the steps are before the last 512, where turns are looked at first.
+TURNS = 400
 
 # A turn that moves the state of qubit 0 to qubit 2 by a Bell pair, corrects it by the records, and moves it back.
 TELEPORT = "H 1\nCX 1 2\nX_ERROR(0.001) 0 1 2\nCX 0 1\nH 0\nM(0.002) 0 1\nCX rec[-1] 2\nCZ rec[-2] 2\nSWAP 0 2\nR 1 2\n"
@@ -56,10 +57,10 @@ class RepeatedTurns(ProgramTest):
                 self.check(["analyze"], circuit, write_model(circuit))
 
     def test_more_text_than_is_held(self):
-        """Probabilities of 5,000 digits, for which the model's text is found in parts."""
-        for name in ("teleported", "parities, each with the one before it", "two blocks, and steps between"):
-            before, turn, behind = BLOCKS[name]
-            circuit = in_a_block(before, turn.replace("0.0", "0.0" + "0" * 5000), behind, 1000)
+        """Faults that flip 1,000 observables each, 17 MB of text: of turns that repeat, and of a few long ones, written in parts."""
+        before, turn, _ = BLOCKS["teleported"]
+        behind = "M 0\n" + "".join(f"OBSERVABLE_INCLUDE({k}) rec[-1]\n" for k in range(1000))
+        for name, circuit in (("repeat", in_a_block(before, turn, behind, 600)), ("few", in_a_block(before, turn * 120, behind, 5))):
             with self.subTest(name):
                 self.check(["analyze"], circuit, write_model(circuit))
 
