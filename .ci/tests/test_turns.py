@@ -57,7 +57,7 @@ class RepeatedTurns(ProgramTest):
                 self.check(["analyze"], circuit, write_model(circuit))
 
     def test_more_text_than_is_held(self):
-        """Faults that flip 1,000 observables each, 17 MB of text: of turns that repeat, and of a few long ones, written in parts."""
+        """Faults that flip 1,000 observables each, more text than is held whole: of turns that repeat, and of a few long ones, written in parts."""
         before, turn, _ = BLOCKS["teleported"]
         behind = "M 0\n" + "".join(f"OBSERVABLE_INCLUDE({k}) rec[-1]\n" for k in range(1000))
         for name, circuit in (("repeat", in_a_block(before, turn, behind, 600)), ("few", in_a_block(before, turn * 120, behind, 5))):
