@@ -105,11 +105,13 @@ fn lent_both<'l, 's, A: Allocator + Copy>(
 }
 
 /// By how much the detectors of the turn before `end` lie before those of the turn behind it, whose lists are kept: a guess. The
-/// last record in whose list a detector is first says by how many, and the detectors behind all that are listed stay.
+/// last record in whose list a detector is first says by how many. Detectors stay behind all that are listed, and behind all in whose
+/// words a letter goes away before the turn: `words` are the lists of the words before and behind it.
 pub(crate) fn guessed_shift<'s, A: Allocator + Copy>(
     lists: &ChangingLists<'s, A>,
     kept: &FlatLists<u32, A>,
     end: usize,
+    words: (&FlatLists<u32, A>, &FlatLists<u32, A>),
     detectors: usize,
     targets: usize,
 ) -> Shift
@@ -117,12 +119,46 @@ pub(crate) fn guessed_shift<'s, A: Allocator + Copy>(
     requires few { detectors ≤ targets }
     ensures { IsShiftOf detectors targets result }
 {
+    let (before, behind) = words;
     Shift {
         by: detectors_moved(lists, kept, end, detectors),
-        staying: end_of_listed(kept, detectors),
+        staying: end_of_listed(kept, detectors).max(end_of_gone(before, behind, detectors)),
         detectors,
         targets,
     }
+}
+
+// The number behind the greatest detector that is in a list and not in that at the same place of `before`; 0 where there is none.
+fn end_of_gone<A: Allocator + Copy>(
+    before: &FlatLists<u32, A>,
+    lists: &FlatLists<u32, A>,
+    detectors: usize,
+) -> usize
+    ensures { result ≤ detectors }
+{
+    let mut end = 0;
+    for i in 0..before.len().min(lists.len()) {
+        end = end_without(before.get(i), lists.get(i), detectors).max(end);
+    }
+    end
+}
+
+// The number behind the greatest detector that is in a list and not in another, where both ascend; 0 where there is none.
+fn end_without(other: &[u32], list: &[u32], detectors: usize) -> usize
+    ensures { result ≤ detectors }
+{
+    let mut end = 0;
+    let mut at = 0;
+    for target in list {
+        while at < other.len() && other[at] < *target {
+            at += 1;
+        }
+        let is_there = at < other.len() && other[at] == *target;
+        if !is_there && (*target as usize) < detectors {
+            end = *target as usize + 1;
+        }
+    }
+    end
 }
 
 // The number behind the greatest detector that is last but for observables in one of these lists; 0 where there is none.

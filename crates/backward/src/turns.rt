@@ -190,7 +190,9 @@ fn period_at<'s, 'p, 'a, A: Allocator + Copy>(
     if found.settled || found.is_random() {
         return None;
     }
-    let shift = guessed_shift(&found.lists, listed, end, program.detector_count(), targets);
+    let words = (&point.lists, &later.lists);
+    let detectors = program.detector_count();
+    let shift = guessed_shift(&found.lists, listed, end, words, detectors, targets);
     if !are_earlier(&point.lists, &later.lists, &shift) || !lines.are_clear(&shift) {
         return None;
     }

@@ -26,8 +26,8 @@ returns-clause-period g c =
     let none : length found.latest.items ≡ 0 = grind (arith, nat_tests, c.is_random.ensures, c.if-is_random.false) in
     let unsettled : found.settled ≡ false = grind (arith, c.if-found.false) in
     let lists : HoldsLists program.listing false point.walk.place found.known found.lists = subst (λ b. HoldsLists program.listing b point.walk.place found.known found.lists) unsettled c.requires.known.lists in
-    let shift_is : IsShiftOf (length program.listing.detectors) (length (targets_of program.listing)) shift = subst (λ n. IsShiftOf n (length (targets_of program.listing)) shift) c.detector_count.ensures
-    (subst (λ n. IsShiftOf c.detector_count.result n shift) c.target_count-targets.ensures.count c.guessed_shift-shift.ensures) in
+    let shift_is : IsShiftOf (length program.listing.detectors) (length (targets_of program.listing)) shift = subst (λ n. IsShiftOf n (length (targets_of program.listing)) shift) c.detector_count-detectors.ensures
+    (subst (λ n. IsShiftOf c.detector_count-detectors.result n shift) c.target_count-targets.ensures.count c.guessed_shift-shift.ensures) in
     let earlier : c.are_earlier.result ≡ true = grind (arith, c.if-not-are_earlier.false) in
     let clear : AreClear shift (lines_between program.listing point.walk.place later.walk.place) =
     clear-reverse shift (lines_between program.listing point.walk.place later.walk.place) (subst (AreClear shift) c.requires.lines (c.are_clear.ensures (grind (arith, c.if-not-are_clear.false)))) in
