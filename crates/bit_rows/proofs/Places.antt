@@ -186,21 +186,6 @@ first_one_found n words row (Some i) held seen none is_set first =
     let bit : (k : ℕ) → k < n → get_or row k false ≡ bit_in words k = λ k h. ap (λ v. get_or v k false) (sym seen) ∙ get_or-row_of n words k h in
     sym (first_one_is row i (omega (arith, long)) (bit i within ∙ is_set) (λ k h. bit k (omega arith) ∙ first k h))
 
-pub zero_row : (n : ℕ) (words : List ℕ) (row : List Bool) → row_of n words ≡ row → ((place : ℕ) → bit_in words place ≡ false)
-    → row ≡ replicate (length row) false
-zero_row n words row seen none =
-    sym seen ∙ row_of_zeros n words (λ i h. none i) ∙ ap (λ m. replicate m false) (sym (row_long n words row seen))
-
-pub zero_places : (n : ℕ) (words : List ℕ) (row : List Bool) → HoldsRow n words → row_of n words ≡ row
-    → row ≡ replicate (length row) false → (place : ℕ) → bit_in words place ≡ false
-zero_places n words row held seen blank place =
-    ⊎_elim
-    (λ (h : place < n).
-    let within : place < length row = omega (arith, row_long n words row seen) in
-    sym (get_or-row_of n words place h) ∙ ap (λ v. get_or v place false) (seen ∙ blank) ∙ get_or-replicate (length row) place false false within)
-    (λ (h : n ≤ place). held.blank place h)
-    (cases_lt place n)
-
 -- the bit to turn, named by its place in its word or in the row
 pub turned : (words : List ℕ) (place j : ℕ)
     → cond (eqb j (place % 64)) (not (bit_of (get_or words (place / 64) 0) j)) (bit_of (get_or words (place / 64) 0) j)

@@ -1,5 +1,5 @@
 // The bit at a place of a list of words of 64 bits.
-ghost use Rattle.std.specs.Prelude.{◌≡◌, ◌==◌, ◌↔◌, ℕ, ◌*◌, ◌/◌, ◌^◌, ◌<◌, ◌≤◌, true, false, not, if◌then◌else◌, length, IsTrue, IfSome, IfNone};
+ghost use Rattle.std.specs.Prelude.{◌≡◌, ◌==◌, ℕ, ◌*◌, ◌/◌, ◌^◌, ◌<◌, ◌≤◌, true, false, not, if◌then◌else◌, length, IfSome, IfNone};
 ghost use Rattle.bit_rows.specs.private.Words.{bit_in};
 
 #[inline(always)]
@@ -45,8 +45,3 @@ pub(crate) fn first_place(words: &[u64]) -> Option<usize>
     None
 }
 
-pub(crate) fn all_zero(words: &[u64]) -> bool
-    ensures { IsTrue result ↔ ((k : ℕ) → bit_in words.now k ≡ false) }
-{
-    words.iter().all(|word| *word == 0)
-}

@@ -1,7 +1,7 @@
 ghost use Rattle.std.specs.Prelude.{◌≡◌, ◌↔◌, ◌<◌, ◌≤◌, List, Bool, false, not, length, replicate, slice_index_or, slice_set, IfOk, IsTrue};
 ghost use Rattle.bit_rows.specs.Rows.{xor_rows, and_parity_of, phase_of, first_one_of};
 
-use crate::bits::{all_zero, bit_at_place, first_place, flip_bit, put_bit};
+use crate::bits::{bit_at_place, first_place, flip_bit, put_bit};
 use crate::marks::{either, is_unmarked, mark, marks_of_sum};
 use crate::multiply::multiply_words;
 use crate::parity::has_odd_common_ones;
@@ -201,13 +201,6 @@ impl<A: Allocator + Copy> BitRow<A> {
         ensures { result ≡ first_one_of self.now }
     {
         first_place(self.words.as_slice())
-    }
-
-    /// Whether every bit is 0.
-    pub fn is_zero(&self) -> bool
-        ensures { IsTrue result ↔ (self.now ≡ replicate (length self.now) false) }
-    {
-        all_zero(self.words.as_slice())
     }
 
     /// The power of i, 0 to 3, of a product of Pauli words: the one with x bits `xa` and z bits `za`, times the one with

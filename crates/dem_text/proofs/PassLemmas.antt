@@ -8,7 +8,7 @@ use Rattle.dem_text.specs.Texts.{Item}
 use Rattle.dem_text.specs.Trees.{Tree}
 use Rattle.stim_lexer.specs.Trees.{items_of}
 use Rattle.dem_text.specs.Verdicts.{Instruction}
-use Rattle.stim_lexer.specs.private.Passes.{AreWhole, CanStand, Pass}
+use Rattle.stim_lexer.specs.Passes.{AreWhole, CanStand, Pass}
 
 pub whole-tree : (t : Tree) → IsAccepted t → AreWhole Fits (items_of t) 0
 whole-tree t accepted = passes.whole-tree Fits t accepted

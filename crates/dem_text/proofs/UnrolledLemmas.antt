@@ -8,7 +8,7 @@ use Rattle.dem_text.specs.private.Unrolled.{greatest, lines_inside, capped_sum, 
 use Rattle.dem_text.specs.Reached.{block_lines, has_many_lines, most_lines}
 use Rattle.stim_lexer.specs.Reached.{total}
 use Rattle.stim_lexer.specs.declared.blocks.OpenBlock.{OpenBlock}
-use Rattle.stim_lexer.specs.private.Passes.{Passes, behind}
+use Rattle.stim_lexer.specs.Passes.{Passes, behind}
 use Rattle.dem_text.specs.private.TableLines.{stand_of}
 use Rattle.dem_text.specs.Texts.{Item}
 use Rattle.stim_lexer.specs.Trees.{InstructionLine, BlockStart, BlockEnd, Nothing, Then, Block, items_of}

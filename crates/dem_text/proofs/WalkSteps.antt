@@ -6,7 +6,7 @@ use Rattle.std.proofs.lemmas.Bool.Decides.{nat_tests}
 use Rattle.stim_lexer.specs.Flat.{first_tree, onto, trees_of}
 use Rattle.stim_lexer.specs.Stored.{read_back}
 use Rattle.dem_text.specs.Fitting.{Fits, IsAccepted}
-use Rattle.stim_lexer.specs.private.Passes.{AreWhole, CanStand}
+use Rattle.stim_lexer.specs.Passes.{AreWhole, CanStand}
 use Rattle.dem_text.specs.declared.table_line.Stand.{Stand}
 use Rattle.dem_text.specs.declared.table_line.Stand.TheVariants as stand
 use Rattle.dem_text.specs.private.TableLines.{CanStandAt, HasNoLine, stand_of}

@@ -10,7 +10,7 @@ use Rattle.step_model.specs.Listing.{Listing, ListedStep, Fault, fault_word}
 use Rattle.step_model.specs.Runs.{RunState, happens, next}
 use Rattle.step_model.specs.WellFormed.{IsWellFormed}
 use Rattle.forward_sim.specs.private.Quiet.{NoneHappens, PassesQuiet}
-use Rattle.forward_sim.specs.private.SameRuns.{IsSameRun}
+use Rattle.forward_sim.specs.SameRuns.{IsSameRun}
 use Rattle.forward_sim.proofs.PassedFaults.{behind_passed, faults_before-later}
 use Rattle.forward_sim.proofs.ReferenceSteps.{KeepsRest, keeps_after_step}
 use Rattle.forward_sim.proofs.RunLoops.{GoesAlong}

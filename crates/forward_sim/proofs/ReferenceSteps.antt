@@ -18,7 +18,7 @@ use Rattle.programs.specs.Listed.{measured}
 use Rattle.forward_sim.specs.private.Kept.{StepKeeps}
 use Rattle.forward_sim.specs.private.Machines.{Running, qubit_count, run_of, ended, ComesTo}
 use Rattle.forward_sim.specs.References.{IsEntry, AreEntries}
-use Rattle.forward_sim.specs.private.SameRuns.{HoldSame, IsSameRun}
+use Rattle.forward_sim.specs.SameRuns.{HoldSame, IsSameRun}
 use Rattle.forward_sim.proofs.RunRecords.{MakesRest, all_fit, records_at_end, step_is_next}
 use Rattle.forward_sim.proofs.SameStates.{same-corrected, same-next}
 

@@ -7,7 +7,7 @@ use Rattle.programs.specs.declared.step.Step.{Step}
 use Rattle.programs.specs.Kept.{KeptProgram}
 use Rattle.programs.specs.Walks.{Walked}
 use Rattle.forward_sim.specs.private.Machines.{CanTake}
-use Rattle.forward_sim.specs.private.SameRuns.{IsSameRun}
+use Rattle.forward_sim.specs.SameRuns.{IsSameRun}
 use Rattle.forward_sim.proofs.RunRecords.{MakesRest, rest_after_step, rest_at_start, step_is_next}
 use Rattle.forward_sim.proofs.WalkedSteps.{GoesOver, listed_of}
 

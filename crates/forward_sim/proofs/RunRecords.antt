@@ -8,7 +8,7 @@ use Rattle.step_model.specs.Listing.{Listing, ListedStep, One, Two, Collapse, Fa
 use Rattle.step_model.specs.Runs.{RunState, start, next, run_from, records_of}
 use Rattle.step_model.specs.WellFormed.{IsWellFormed, records_made, step_fits}
 use Rattle.step_model.proofs.StateIsGroup.{list_all-pass}
-use Rattle.forward_sim.specs.private.SameRuns.{IsSameRun}
+use Rattle.forward_sim.specs.SameRuns.{IsSameRun}
 use Rattle.forward_sim.proofs.SameStates.{same-run_from}
 
 pub length-next : (program : Listing) (faults : List Bool) (step : ListedStep) (m : RunState) → length (next program faults step m).records ≡ length m.records + length (step_records step)

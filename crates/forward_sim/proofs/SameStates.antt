@@ -15,7 +15,7 @@ use Rattle.step_model.specs.Listing.{Listing, ListedStep, One, Two, Collapse, Fa
 use Rattle.step_model.specs.Runs.{RunState, next_coin, corrected, after_collapse, correction, record_changes, happens, next, run_from}
 use Rattle.step_model.specs.WellFormed.{step_fits}
 use Rattle.step_model.proofs.StateIsGroup.{length-measured}
-use Rattle.forward_sim.specs.private.SameRuns.{HoldSame, IsSameRun}
+use Rattle.forward_sim.specs.SameRuns.{HoldSame, IsSameRun}
 
 pub same-outcome : (n : ℕ) (s t : State) (w : List Letter) (coin : Bool) → HoldSame n s t → length w ≡ n → outcome s w coin ≡ outcome t w coin
 same-outcome n s t w coin same size =

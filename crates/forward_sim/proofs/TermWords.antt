@@ -13,7 +13,7 @@ use Rattle.pauli_word.proofs.WordLaws.{letters_product_assoc, letters_product_co
 use Rattle.step_model.specs.declared.step.Term.{Term}
 use Rattle.step_model.specs.Listing.{word_of_terms}
 use Rattle.step_model.proofs.StepNumbers.{length-word_of_terms}
-use Rattle.forward_sim.specs.private.SameRuns.{HoldSame}
+use Rattle.forward_sim.specs.SameRuns.{HoldSame}
 
 abbrev pub no_term : Term
 no_term = record { qubit = 0; letter = I }

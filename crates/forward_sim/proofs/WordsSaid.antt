@@ -13,7 +13,7 @@ use Rattle.step_model.specs.Runs.{RunState, start, next, next_coin, corrected, c
 use Rattle.step_model.specs.WellFormed.{IsWellFormed, collapse_count, records_made, step_fits}
 use Rattle.step_model.proofs.StateIsGroup.{length-measured}
 use Rattle.forward_sim.specs.References.{Walking, Kept, Walked, walking_qubits, walking_run, entry_of, AreEntries, GoesAlong, GoneOver, IsEntry, IsStepEntry}
-use Rattle.forward_sim.specs.private.SameRuns.{HoldSame, IsSameRun}
+use Rattle.forward_sim.specs.SameRuns.{HoldSame, IsSameRun}
 use Rattle.forward_sim.proofs.ReferenceSteps.{same-entry}
 use Rattle.forward_sim.proofs.RunRecords.{all_fit, length-next}
 use Rattle.forward_sim.proofs.SameStates.{same-next}

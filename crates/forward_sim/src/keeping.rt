@@ -7,7 +7,7 @@ ghost use Rattle.forward_sim.specs.References.{walking_qubits, walking_run, AreE
 ghost use Rattle.forward_sim.specs.private.Kept.{StepIsKept, WalksTo};
 ghost use Rattle.forward_sim.specs.private.Said.{words_of};
 ghost use Rattle.forward_sim.specs.private.Machines.{CanTake};
-ghost use Rattle.forward_sim.specs.private.SameRuns.{IsSameRun};
+ghost use Rattle.forward_sim.specs.SameRuns.{IsSameRun};
 
 use crate::kept_words::KeptWords;
 use crate::quiet::pass_quiet;

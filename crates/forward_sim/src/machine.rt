@@ -7,7 +7,7 @@ ghost use Rattle.step_model.specs.Listing.{word_of_terms};
 ghost use Rattle.step_model.specs.Runs.{start, next_coin, corrected};
 ghost use Rattle.step_model.specs.WellFormed.{TermsFit};
 ghost use Rattle.forward_sim.specs.private.Machines.{ComesTo, correction_of, in_state, qubit_count, run_of, with_record};
-ghost use Rattle.forward_sim.specs.private.SameRuns.{IsSameRun};
+ghost use Rattle.forward_sim.specs.SameRuns.{IsSameRun};
 
 use crate::records::Records;
 use crate::values::value_at;

@@ -4,7 +4,7 @@ ghost use Rattle.step_model.specs.Runs.{next, start};
 ghost use Rattle.forward_sim.specs.References.{entry_of, walking_qubits, walking_run, IsStepEntry};
 ghost use Rattle.forward_sim.specs.private.Kept.{terms_listed, WalksTo};
 ghost use Rattle.forward_sim.specs.private.Machines.{CanTake};
-ghost use Rattle.forward_sim.specs.private.SameRuns.{IsSameRun};
+ghost use Rattle.forward_sim.specs.SameRuns.{IsSameRun};
 
 use crate::following::read_replaced;
 use crate::last_word::LastWord;

@@ -21,7 +21,7 @@ use Rattle.run_laws.proofs.ShiftWords.{anticommute-none}
 use Rattle.forward_sim.specs.References.{AreDecided, AreEntries, AreWordsOf, IsEntry, Kept, Walked, Words}
 use Rattle.forward_sim.specs.declared.span.Span.{Span}
 use Rattle.forward_sim.proofs.LaneLemmas.{is_tossed-before, is_tossed-behind}
-use Rattle.forward_sim.specs.private.SameRuns.{IsSameRun}
+use Rattle.forward_sim.specs.SameRuns.{IsSameRun}
 use Rattle.forward_sim.proofs.RunRecords.{all_fit}
 use Rattle.forward_sim.proofs.SameStates.{same-next}
 use Rattle.forward_sim.proofs.WordsSaid.{zeros_after}

@@ -7,7 +7,7 @@ ghost use Rattle.frames.specs.Batches.{AreRuns, DontCount, IsBatchOf, shot_recor
 use crate::follow::follow_steps;
 use crate::frames::Frames;
 use bit_rows::lanes::{bit, spread, xor};
-use forward_sim::{Records, Reference, Span};
+use forward_sim::{Reference, Span};
 use programs::Program;
 use std::alloc::{AllocError, Allocator};
 use std::marker::Model;
@@ -47,16 +47,6 @@ impl<A: Allocator + Copy> Batch<A> {
     {
         let frames = start(alloc, program)?;
         let reference = Reference::of(alloc, program)?;
-        Ok(Batch { reference, frames })
-    }
-
-    /// The same, where the words that the reference run's collapses replaced are kept if they take at most so many bytes.
-    pub fn in_room(alloc: A, program: &Program<'_, A>, bytes: usize) -> Result<Self, Fault>
-        ensures ok { IfOk result (IsBatchOf program.now.listing) }
-        ensures err { IfErr result (λ fault. fault ≡ memory_fault) }
-    {
-        let frames = start(alloc, program)?;
-        let reference = Reference::in_room(alloc, program, bytes)?;
         Ok(Batch { reference, frames })
     }
 
@@ -105,13 +95,6 @@ impl<A: Allocator + Copy> Batch<A> {
     {
         program.well_formed();
         self.reference.longest_decided(program)
-    }
-
-    /// The reference run's records: in it no fault happens and all coins are 0.
-    pub fn reference(&self) -> &Records<A>
-        ensures { result.now ≡ self.now.reference.records }
-    {
-        self.reference.records()
     }
 
     /// A record of a run.

@@ -9,7 +9,7 @@ use Rattle.gate_table.proofs.PairImageLaws.{length-image_at_two, image_at_two-no
 use Rattle.pauli_word.proofs.Groups.{IsGroup-moved}
 use Rattle.pauli_word.specs.States.{State}
 use Rattle.pauli_word.specs.Groups.{IsGroup}
-use Rattle.pauli_word.specs.private.WordMaps.{KeepsWords}
+use Rattle.pauli_word.specs.WordMaps.{KeepsWords}
 
 pub image_at_keeps : (n : ℕ) (g : Gate) (q : ℕ) → q < n → KeepsWords n (image_at g q)
 image_at_keeps n g q within =

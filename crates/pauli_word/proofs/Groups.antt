@@ -9,7 +9,7 @@ use Rattle.pauli_word.specs.Letters.{one, power_product, is_minus, sign_power, l
 use Rattle.pauli_word.specs.Parity.{exclusive_or}
 use Rattle.pauli_word.specs.States.{State, is_I_or_Z, start_state, applied, is_decided, collapsed}
 use Rattle.pauli_word.specs.Groups.{IsMember, IsGroup}
-use Rattle.pauli_word.specs.private.WordMaps.{KeepsWords}
+use Rattle.pauli_word.specs.WordMaps.{KeepsWords}
 use Rattle.pauli_word.specs.Words.{Signed, signed, with_sign_changed, letters_product, letters_power, anticommute, product, no_letters}
 use Rattle.pauli_word.proofs.Parities.{exclusive_or-false, exclusive_or_assoc}
 use Rattle.pauli_word.proofs.LetterLaws.{letter_power_of_I, letters_clash_of_I}

@@ -5,4 +5,4 @@ pub mod Parity
 pub mod States
 pub mod Words
 pub mod Groups
-pub mod private
+pub mod WordMaps

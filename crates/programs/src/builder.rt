@@ -50,13 +50,6 @@ impl<A: Allocator + Copy> CircuitBuilder<A> {
         }
     }
 
-    /// How many blocks are open.
-    pub fn depth(&self) -> usize
-        ensures { result ≡ length self.now.outer }
-    {
-        self.outer.len()
-    }
-
     /// Appends a step. It fails only where memory runs out.
     pub fn push(&mut self, step: TextStep) -> Result<(), AllocError>
         ensures ok { OnOk result

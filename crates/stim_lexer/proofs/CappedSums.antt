@@ -4,7 +4,7 @@ use Rattle.std.proofs.Common.{◌≡◌, ℕ, zero, suc, ◌+◌, ◌-◌, ◌*�
 use Rattle.std.specs.Prelude.{min}
 use Rattle.std.proofs.lemmas.Bool.{cases_lt}
 use Rattle.stim_lexer.specs.Fitting.{AllFit}
-use Rattle.stim_lexer.specs.private.Passes.{Pass, behind}
+use Rattle.stim_lexer.specs.Passes.{Pass, behind}
 use Rattle.stim_lexer.specs.Reached.{total}
 use Rattle.stim_lexer.specs.Trees.{Tree, Nothing, Then, Block}
 

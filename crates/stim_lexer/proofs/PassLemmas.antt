@@ -5,7 +5,7 @@ use Rattle.std.proofs.lemmas.List.{reverse-append, drop_all}
 use Rattle.stim_lexer.specs.Fitting.{AllFit, IsBuilt, depth}
 use Rattle.stim_lexer.specs.Trees.{Item, InstructionLine, BlockStart, BlockEnd, Tree, Nothing, Then, Block, items_of}
 use Rattle.stim_lexer.specs.declared.blocks.OpenBlock.{OpenBlock}
-use Rattle.stim_lexer.specs.private.Passes.{AreWhole, Pass, behind, opened, CanStand, Passes}
+use Rattle.stim_lexer.specs.Passes.{AreWhole, Pass, behind, opened, CanStand, Passes}
 
 -- the state behind items, where these blocks are open, the innermost first
 abbrev pub run : {I S : Type 0} → Pass I S → List (Item I) → List (OpenBlock S) → S → S

@@ -3,6 +3,7 @@ pub mod Lines
 pub mod FirstLines
 pub mod Cut
 pub mod Lexing
+pub mod Passes
 pub mod private
 pub mod Arguments
 pub mod Instructions

@@ -1,2 +1,1 @@
 pub mod Special
-pub mod Passes

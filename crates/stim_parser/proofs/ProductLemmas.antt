@@ -4,7 +4,7 @@ use Rattle.std.proofs.Common.{◌≡◌, ℕ, Bool, true, false, not, ◌&&◌, 
 use Rattle.std.proofs.lemmas.Bool.{cases_eq, eq-eqb, ne_eqb}
 use Rattle.stim_parser.specs.declared.target.Target.{Target}
 use Rattle.stim_parser.specs.declared.target.Target.TheVariants.{Plain, Inverted, Back, Pauli, Star}
-use Rattle.stim_parser.specs.private.Products.{goes_on_with, goes_on_within, has_product_of_one, is_factor_at, is_factor_within, is_joining, names_again}
+use Rattle.stim_parser.specs.Products.{goes_on_with, goes_on_within, has_product_of_one, is_factor_at, is_factor_within, is_joining, names_again}
 
 eqb_sym : (a b : ℕ) → eqb a b ≡ eqb b a
 eqb_sym a b =

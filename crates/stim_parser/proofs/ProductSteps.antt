@@ -5,7 +5,7 @@ use Rattle.std.proofs.lemmas.List.{take_rest}
 use Rattle.stim_parser.specs.declared.forms.TargetForm.TheVariants.{Products}
 use Rattle.stim_parser.specs.declared.target.Target.{Target}
 use Rattle.stim_parser.specs.Limits.{has_target_beyond, is_target_beyond}
-use Rattle.stim_parser.specs.private.Products.{goes_on_with, goes_on_within, has_product_of_one, is_factor_at, is_factor_within, is_joining}
+use Rattle.stim_parser.specs.Products.{goes_on_with, goes_on_within, has_product_of_one, is_factor_at, is_factor_within, is_joining}
 use Rattle.stim_parser.proofs.ProductLemmas.{named-step, product-begins, product-goes_on, taken_out, unnamed-step}
 
 -- ---- a list cut behind its first targets

@@ -6,7 +6,7 @@ use Rattle.pauli_word.specs.declared.letter.Letter.{Letter}
 use Rattle.stim_parser.specs.declared.target.Target.{Target}
 use Rattle.stim_parser.specs.declared.target.Target.TheVariants.{Pauli, Star}
 use Rattle.stim_parser.specs.Limits.{are_products, is_same_factor, names_twice, products_of}
-use Rattle.stim_parser.specs.private.Products.{are_factors, goes_on_with, has_product_of_one, is_factor, is_factor_at, is_joining, names_again}
+use Rattle.stim_parser.specs.Products.{are_factors, goes_on_with, has_product_of_one, is_factor, is_factor_at, is_joining, names_again}
 
 -- ---- factors and stars
 

@@ -19,4 +19,5 @@ pub mod Offsets
 pub mod Judged
 pub mod Rows
 pub mod ShortTargets
+pub mod Products
 pub mod private

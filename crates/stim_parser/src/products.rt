@@ -1,7 +1,7 @@
 ghost use Rattle.std.specs.Prelude.{◌≡◌, ◌≤◌, ◌&&◌, ◌||◌, ℕ, false, length, not, true, IfSome, MatchOption};
 ghost use Rattle.stim_parser.specs.declared.forms.TargetForm.TheVariants.{Products};
 ghost use Rattle.stim_parser.specs.Limits.{are_products, has_target_beyond, is_target_beyond};
-ghost use Rattle.stim_parser.specs.private.Products.{are_factors, begins_with_factor, goes_on_with, has_product_of_one, is_factor, is_factor_at, is_factor_within, is_joining, repeats_within};
+ghost use Rattle.stim_parser.specs.Products.{are_factors, begins_with_factor, goes_on_with, has_product_of_one, is_factor, is_factor_at, is_factor_within, is_joining, repeats_within};
 ghost use Rattle.stim_parser.specs.private.QubitSets.{is_named};
 
 use crate::qubit_set::QubitSet;

@@ -8,7 +8,7 @@ use Rattle.pauli_word.specs.declared.letter.Letter.TheVariants.{Z}
 use Rattle.pauli_word.specs.Letters.{letters_clash}
 use Rattle.pauli_word.specs.Parity.{exclusive_or}
 use Rattle.pauli_word.specs.States.{State, is_I_or_Z, start_state, is_decided, outcome, collapsed}
-use Rattle.pauli_word.specs.private.WordMaps.{KeepsWords}
+use Rattle.pauli_word.specs.WordMaps.{KeepsWords}
 use Rattle.pauli_word.specs.Words.{Signed, signed, with_sign_changed, anticommute, product, letter_at, lowest_X_or_Y}
 use Rattle.pauli_word.proofs.Groups.{IsGroup-start}
 use Rattle.pauli_word.proofs.LetterLaws.{letters_clash_comm}

@@ -14,7 +14,7 @@ use Rattle.pauli_word.proofs.LetterLaws.{letter_product-I, letter_power-I}
 use Rattle.pauli_word.proofs.WordLaws.{letters_power_of_none}
 use Rattle.pauli_word.proofs.SignedLaws.{product_of_identity}
 use Rattle.pauli_word.proofs.LoneLetters.{length-lone_letter, letters_product_of_no_letters}
-use Rattle.pauli_word.specs.private.WordMaps.{KeepsWords}
+use Rattle.pauli_word.specs.WordMaps.{KeepsWords}
 use Rattle.tableau.specs.private.CliffordMaps.{IsClifford}
 use Rattle.tableau.specs.private.Encoding.{Pair, word_of, letters_encoded, encoded, pair_at, IsTableau}
 use Rattle.tableau.proofs.Turns.{product_size, times_identity}

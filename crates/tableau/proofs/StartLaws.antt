@@ -6,7 +6,7 @@ use Rattle.std.proofs.lemmas.List.{length-replicate}
 use Rattle.pauli_word.specs.declared.letter.Letter.TheVariants.{I}
 use Rattle.pauli_word.specs.States.{start_state}
 use Rattle.pauli_word.specs.Words.{Signed}
-use Rattle.pauli_word.specs.private.WordMaps.{KeepsWords}
+use Rattle.pauli_word.specs.WordMaps.{KeepsWords}
 use Rattle.tableau.specs.private.CliffordMaps.{IsClifford}
 use Rattle.tableau.specs.private.Decoding.{rows_seen}
 use Rattle.tableau.specs.private.Encoding.{Pair, encoded, pair_at, IsTableau, HasLength}

@@ -11,7 +11,7 @@ use Rattle.pauli_word.proofs.WordLaws.{length-letters_product, anticommute_comm,
 use Rattle.pauli_word.proofs.SignedLaws.{product_comm, product_self, product_of_identity, product-sign_changed_right}
 use Rattle.pauli_word.specs.States.{State, is_decided, collapsed}
 use Rattle.pauli_word.specs.Groups.{IsMember, IsGroup, identity_word}
-use Rattle.pauli_word.specs.private.WordMaps.{KeepsWords}
+use Rattle.pauli_word.specs.WordMaps.{KeepsWords}
 use Rattle.tableau.specs.private.CliffordMaps.{IsClifford, turned}
 use Rattle.tableau.proofs.SignedAlgebra.{product_regrouped, product_swapped}
 

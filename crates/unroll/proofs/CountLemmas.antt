@@ -14,7 +14,7 @@ use Rattle.unroll.specs.declared.marks.Mark.{Mark}
 use Rattle.stim_lexer.specs.Reached.{reached}
 use Rattle.flat_lists.specs.Turns.{later}
 use Rattle.unroll.specs.private.Gathered.{Gathered, Gathering, gathering, given}
-use Rattle.stim_lexer.specs.private.Passes.{behind, opened}
+use Rattle.stim_lexer.specs.Passes.{behind, opened}
 use Rattle.unroll.specs.private.Counted.{first_far_from}
 use Rattle.unroll.specs.private.MadeTotals.{record_count, record_total}
 use Rattle.unroll.proofs.GatherLemmas.{IsGathering, Rises, gathered, gathering-begins, gathering-does, gathering-done, gathering-ends, gathering-first, gathering-rises, gathering-room, gathering-some}

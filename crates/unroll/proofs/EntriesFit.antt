@@ -15,7 +15,7 @@ use Rattle.stim_parser.specs.declared.operation.Operation.TheVariants.{Measureme
 use Rattle.stim_parser.specs.declared.target.Target.{Target}
 use Rattle.stim_parser.specs.declared.target.Target.TheVariants.{Plain, Pauli}
 use Rattle.stim_parser.specs.Circuits.{IsCircuit}
-use Rattle.stim_parser.specs.private.Products.{is_factor}
+use Rattle.stim_parser.specs.Products.{is_factor}
 use Rattle.stim_parser.specs.Limits.{are_of_form, has_wrong_arguments, has_wrong_probability, is_pauli, is_plain, is_probability, qubit_of}
 use Rattle.stim_parser.specs.Trees.{Tree}
 use Rattle.stim_parser.specs.Verdicts.{Instruction}

@@ -14,7 +14,7 @@ use Rattle.unroll.specs.declared.marks.Mark.{Mark}
 use Rattle.stim_lexer.specs.Reached.{copies, reached}
 use Rattle.flat_lists.specs.Turns.{later}
 use Rattle.unroll.specs.private.Gathered.{Gathered, Gathering, closed, gathering, given, mark_of, place_behind, stepped}
-use Rattle.stim_lexer.specs.private.Passes.{behind, opened}
+use Rattle.stim_lexer.specs.Passes.{behind, opened}
 use Rattle.unroll.proofs.PassLemmas.{AreWhole, can_stand, drop_got, whole-tree}
 
 -- ---- a list of instructions

@@ -3,8 +3,8 @@ use Rattle.std.proofs.Common.{◌≡◌, ℕ, suc, ◌+◌, List, ◌∷◌, dro
 use Rattle.std.specs.Prelude.{slice_get}
 use Rattle.stim_lexer.specs.declared.blocks.OpenBlock.{OpenBlock}
 use Rattle.stim_lexer.proofs.PassLemmas as pass_lemmas
-use Rattle.stim_lexer.specs.private.Passes as passes
-use Rattle.stim_lexer.specs.private.Passes.{CanStand, Pass}
+use Rattle.stim_lexer.specs.Passes as passes
+use Rattle.stim_lexer.specs.Passes.{CanStand, Pass}
 pub use Rattle.stim_lexer.proofs.PassLemmas.{drop_got, passing-first, passing-can, passing-next, passing-done}
 use Rattle.stim_parser.specs.Circuits.{Fits, IsCircuit}
 use Rattle.stim_parser.specs.Texts.{Item}

@@ -21,7 +21,7 @@ use Rattle.stim_parser.specs.Offsets.{moved, shifted}
 use Rattle.unroll.specs.TargetsMade.{offset_after, operation_coordinates}
 use Rattle.stim_lexer.specs.Reached.{copies, reached}
 use Rattle.unroll.specs.private.Gathered.{Gathered, gathering, given, place_behind}
-use Rattle.stim_lexer.specs.private.Passes.{behind}
+use Rattle.stim_lexer.specs.Passes.{behind}
 use Rattle.unroll.specs.private.Placing.{down_of, downs, moved_down, moved_to, moved_up, numbers_of, operation_places, placing, raised_by, step_at, steps_of, turned_by, unmoved, unplaced, up_of, ups}
 use Rattle.unroll.proofs.EachReached.{Each, each-reached}
 use Rattle.unroll.proofs.GatherLemmas.{AreSteady, IsSteady, copies-more, gathered, place_behind-append}

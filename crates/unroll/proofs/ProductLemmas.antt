@@ -13,7 +13,7 @@ use Rattle.stim_parser.specs.declared.target.Target.TheVariants.{Plain, Inverted
 use Rattle.step_model.specs.declared.step.Term.{Term}
 use Rattle.unroll.specs.private.Made.{product_steps, recording}
 use Rattle.stim_parser.specs.Limits.{products_of}
-use Rattle.stim_parser.specs.private.Products.{is_joining}
+use Rattle.stim_parser.specs.Products.{is_joining}
 use Rattle.unroll.specs.Targets.{is_inverted, is_product_inverted, term_of}
 use Rattle.unroll.specs.private.Pushed.{FollowsFactor, IsSmall, carried_steps}
 

@@ -11,7 +11,7 @@ use Rattle.step_model.specs.Listing.{is_I}
 use Rattle.stim_parser.specs.declared.target.Target.{Target}
 use Rattle.stim_parser.specs.declared.target.Target.TheVariants.{Pauli, Star}
 use Rattle.stim_parser.specs.Circuits.{target_is_written}
-use Rattle.stim_parser.specs.private.Products.{are_factors, begins_with_factor, goes_on_with, has_product_of_one, is_factor, is_factor_at, is_joining, names_again}
+use Rattle.stim_parser.specs.Products.{are_factors, begins_with_factor, goes_on_with, has_product_of_one, is_factor, is_factor_at, is_joining, names_again}
 use Rattle.stim_parser.specs.Limits.{are_products, names_twice, products_of, qubit_of}
 use Rattle.stim_parser.proofs.ProductWords.{first-onto, first_product, products-first, twice}
 use Rattle.unroll.specs.Targets.{pauli_letter, term_of}

@@ -14,7 +14,7 @@ use Rattle.stim_lexer.specs.Reached.{greatest_by, instructions_of, total}
 use Rattle.stim_lexer.specs.Trees.{Nothing, Then, Block}
 use Rattle.stim_lexer.proofs.CappedSums.{KeepsSum, behind-sum, no_turn, repeated-adds, whole-sum}
 use Rattle.unroll.specs.declared.totals.Totals.{Totals}
-use Rattle.stim_lexer.specs.private.Passes.{behind}
+use Rattle.stim_lexer.specs.Passes.{behind}
 use Rattle.unroll.specs.Refusals.{first_observable_beyond, is_before_start, most_observables, reaches_far}
 use Rattle.unroll.specs.Totals.{observables_to}
 use Rattle.unroll.specs.private.Counted.{first_far_from}

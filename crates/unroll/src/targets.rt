@@ -1,7 +1,7 @@
 ghost use Rattle.std.specs.Prelude.{◌≡◌, ◌≤◌, All, length, map};
 ghost use Rattle.stim_parser.specs.Kept.{list_in};
 ghost use Rattle.stim_parser.specs.Numbers.{most_qubits};
-ghost use Rattle.stim_parser.specs.private.Products.{is_joining};
+ghost use Rattle.stim_parser.specs.Products.{is_joining};
 ghost use Rattle.stim_parser.specs.Limits.{products_of, qubit_of};
 ghost use Rattle.unroll.specs.private.Pushed.{FollowsFactor};
 ghost use Rattle.unroll.specs.Refusals.{is_before_start, reaches_far};

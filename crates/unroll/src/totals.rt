@@ -1,6 +1,6 @@
 ghost use Rattle.std.specs.Prelude.{◌≡◌};
 ghost use Rattle.arrayvec.specs.ArrayVec.{array_vec_len};
-ghost use Rattle.stim_lexer.specs.private.Passes.{CanStand, Passes};
+ghost use Rattle.stim_lexer.specs.Passes.{CanStand, Passes};
 ghost use Rattle.stim_parser.specs.Circuits.{Fits};
 ghost use Rattle.stim_parser.specs.Kept.{instruction_in, item_in};
 ghost use Rattle.unroll.specs.private.Summed.{AreTotals, capped_sum, first_line, nothing_summed, repeated_sum, summing, totals_after, totals_repeated, SumsFit};

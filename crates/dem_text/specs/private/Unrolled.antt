@@ -8,7 +8,7 @@ use Rattle.stim_lexer.specs.declared.blocks.OpenBlock.{OpenBlock}
 use Rattle.dem_text.specs.declared.table_line.Stand.{Stand}
 use Rattle.dem_text.specs.declared.table_line.Stand.TheVariants as stand
 use Rattle.dem_text.specs.declared.unrolled.Unrolled.{Unrolled}
-use Rattle.stim_lexer.specs.private.Passes.{HasClosed, Pass, opened}
+use Rattle.stim_lexer.specs.Passes.{HasClosed, Pass, opened}
 use Rattle.dem_text.specs.Trees.{Tree}
 use Rattle.dem_text.specs.Verdicts.{Instruction}
 

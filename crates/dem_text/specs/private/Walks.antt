@@ -9,7 +9,7 @@ use Rattle.dem_text.specs.Texts.{Item}
 use Rattle.stim_lexer.specs.Trees.{InstructionLine, BlockStart, BlockEnd, Nothing, Then, Block}
 use Rattle.dem_text.specs.Trees.{Tree}
 use Rattle.dem_text.specs.Verdicts.{Instruction}
-use Rattle.stim_lexer.specs.private.Passes.{AreWhole}
+use Rattle.stim_lexer.specs.Passes.{AreWhole}
 use Rattle.dem_text.specs.Fitting.{Fits}
 use Rattle.dem_text.specs.declared.table_line.Stand.{Stand}
 use Rattle.dem_text.specs.declared.table_line.Stand.TheVariants as stand

@@ -11,7 +11,7 @@ use Rattle.step_model.specs.Listing.{ListedStep, One, Two, Collapse, Fault, Feed
 use Rattle.tableau.specs.Rows.{Rows, stabilizer_at}
 use Rattle.step_model.specs.Runs.{RunState}
 use Rattle.forward_sim.specs.References.{Walking, entry_of, terms_with, walking_qubits, walking_run, IsEntry}
-use Rattle.forward_sim.specs.private.SameRuns.{IsSameRun}
+use Rattle.forward_sim.specs.SameRuns.{IsSameRun}
 
 -- the qubits at which a word, the first of whose letters is at qubit q, clashes with the letter a
 abbrev pub clashing : Letter → ℕ → List Letter → List ℕ

@@ -11,7 +11,7 @@ use Rattle.programs.specs.Named.{IsStepOf}
 use Rattle.step_model.specs.Listing.{step_records}
 use Rattle.step_model.specs.Runs.{RunState, corrected, correction}
 use Rattle.tableau.specs.Rows.{Rows, row_count, state_of}
-use Rattle.forward_sim.specs.private.SameRuns.{IsSameRun}
+use Rattle.forward_sim.specs.SameRuns.{IsSameRun}
 
 -- the rows of the tableau, the coins of the collapses to come, the records so far, and for how many records there is room
 pub record Running : Type 0 where

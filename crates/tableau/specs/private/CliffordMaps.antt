@@ -3,7 +3,7 @@
 -- conjugation by (1 + i m) / sqrt 2. (Nielsen and Chuang, Quantum Computation and Quantum Information, section 10.5.2.)
 -- (Conjugation by Clifford gates: Aaronson and Gottesman, Phys. Rev. A 70, 052328.)
 use Rattle.std.specs.Prelude.{◌≡◌, ℕ, true, length, if◌then◌else◌}
-use Rattle.pauli_word.specs.private.WordMaps.{KeepsWords}
+use Rattle.pauli_word.specs.WordMaps.{KeepsWords}
 use Rattle.pauli_word.specs.Words.{Signed, anticommute, product, with_sign_changed}
 
 -- f is such a map

@@ -6,7 +6,7 @@ use Rattle.std.specs.Prelude.{ℕ, ◌-◌, List, [], ◌∷◌, ◌++◌, drop,
 use Rattle.flat_lists.specs.Turns.{later}
 use Rattle.stim_parser.specs.Verdicts.{Instruction}
 use Rattle.unroll.specs.declared.marks.Mark.{Mark}
-use Rattle.stim_lexer.specs.private.Passes.{Pass}
+use Rattle.stim_lexer.specs.Passes.{Pass}
 
 -- where the pass stands, and what is found so far
 pub record Gathered (P X : Type 0) : Type 0 where

@@ -7,7 +7,7 @@ use Rattle.stim_lexer.specs.Reached.{instructions_of}
 use Rattle.stim_parser.specs.Trees.{Tree}
 use Rattle.stim_parser.specs.Verdicts.{Instruction}
 use Rattle.unroll.specs.declared.totals.Totals.{Totals}
-use Rattle.stim_lexer.specs.private.Passes.{Pass}
+use Rattle.stim_lexer.specs.Passes.{Pass}
 use Rattle.unroll.specs.Refusals.{first_observable_beyond, most_observables, reaches_far}
 use Rattle.unroll.specs.private.Counted.{first_far_from}
 use Rattle.unroll.specs.Totals.{observable_total, observables_to, qubit_total, step_total}

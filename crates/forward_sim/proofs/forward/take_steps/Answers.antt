@@ -4,7 +4,7 @@ use Rattle.programs.specs.Kept.{KeptProgram}
 use Rattle.programs.specs.Turns.{faults_before}
 use Rattle.step_model.specs.Runs.{records_of, start}
 use Rattle.forward_sim.specs.private.Machines.{qubit_count, run_of}
-use Rattle.forward_sim.specs.private.SameRuns.{IsSameRun}
+use Rattle.forward_sim.specs.SameRuns.{IsSameRun}
 use Rattle.forward_sim.specs.private.Quiet.{NoneHappens}
 use Rattle.forward_sim.proofs.QuietFaults.{along_quiet, none-later}
 use Rattle.forward_sim.proofs.RunLoops.{along_can, along_on, along_start}

@@ -6,7 +6,7 @@ use Rattle.programs.specs.Turns.{faults_before}
 use Rattle.step_model.specs.Frames.{zero_coins}
 use Rattle.step_model.specs.Runs.{next, records_of}
 use Rattle.forward_sim.specs.References.{walking_qubits, walking_run}
-use Rattle.forward_sim.specs.private.SameRuns.{IsSameRun}
+use Rattle.forward_sim.specs.SameRuns.{IsSameRun}
 use Rattle.forward_sim.specs.private.Quiet.{NoneHappens}
 use Rattle.forward_sim.proofs.QuietFaults.{along_quiet, keeps_quiet, none-later}
 use Rattle.forward_sim.proofs.ReferenceSteps.{KeepsRest, entries_at_end, keeps_at_start, keeps_after_step, reference_records}

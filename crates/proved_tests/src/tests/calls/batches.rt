@@ -1,5 +1,5 @@
 //! A batch of runs in which two qubits are measured alike: each run's outcomes are its coin.
-ghost use Rattle.std.specs.Prelude.{◌<◌};
+ghost use Rattle.std.specs.Prelude.{◌≡◌, ◌<◌, length};
 
 use frames::Batch;
 use programs::Program;
@@ -13,19 +13,20 @@ const CIRCUIT: &[u8] = b"H 0\nCX 0 1\nM 0 1\n";
 /// The first coin is 1 in the odd runs. The second outcome is decided, so its coin doesn't count.
 const COINS: &[u64] = &[0xaaaa_aaaa_aaaa_aaaa, 0x0123_4567_89ab_cdef];
 
-/// Whether a run has two records, both 1 in an odd run and both 0 in an even one.
+/// Whether the two records of a run are both 1 in an odd run and both 0 in an even one.
 fn has_its_coin(batch: &Batch<Global>, shot: u32) -> bool
-    requires { shot < 64 }
+    requires shot { shot < 64 }
+    requires records { length batch.now.reference.records ≡ 2 }
 {
-    if batch.reference().len() != 2 {
-        return false;
-    }
     let coin = shot % 2 == 1;
     (batch.record(shot, 0) == coin) & (batch.record(shot, 1) == coin)
 }
 
 fn have_their_coins(alloc: Global, program: &Program<'_, Global>) -> Result<bool, Fault> {
     let batch = Batch::run(alloc, program, &[], COINS)?;
+    if program.record_count() != 2 {
+        return Ok(false);
+    }
     let mut all = true;
     for shot in 0..64 {
         all &= has_its_coin(&batch, shot);

@@ -45,9 +45,9 @@ fn all_x_times_all_y(rt: HostRuntime) {
 fn has_parity(alloc: Global, n: usize, odd: bool) -> Result<bool, AllocError> {
     let mut row = ones(alloc, n)?;
     let copy = row.copy()?;
-    let is_right = row.and_parity(&copy) == odd && !row.is_zero();
+    let is_right = row.and_parity(&copy) == odd && row.first_one().is_some();
     row.xor_from(&copy);
-    Ok(is_right && row.is_zero())
+    Ok(is_right && row.first_one().is_none())
 }
 
 #[test]

@@ -5,7 +5,7 @@ use super::long::{lines_are_right, source_is_right};
 use crate::tests::words::{dense_words, sparse_words};
 use backward::{Analysed, analyse, write_in_parts};
 use error_models::Model;
-use forward_sim::{Records, draw};
+use forward_sim::{Records, Reference, draw};
 use frames::{Batch, flips};
 use programs::Program;
 use rand_core::SeedableRng;
@@ -20,7 +20,7 @@ pub(super) enum Asked {
     Parts,
     Flips,
     Batch,
-    BatchAlong,
+    ReferenceAlong,
     Draw,
     Model,
     Symptom,
@@ -33,7 +33,7 @@ pub(super) const ASKED: [Asked; 10] = [
     Asked::Parts,
     Asked::Flips,
     Asked::Batch,
-    Asked::BatchAlong,
+    Asked::ReferenceAlong,
     Asked::Draw,
     Asked::Model,
     Asked::Symptom,
@@ -53,7 +53,7 @@ impl Asked {
             Asked::Parts => parts_are_right(ration, program),
             Asked::Flips => flips_are_right(ration, program),
             Asked::Batch => batch_is_right(ration.begin(), program),
-            Asked::BatchAlong => batch_along_is_right(ration.begin(), program),
+            Asked::ReferenceAlong => reference_along_is_right(ration.begin(), program),
             Asked::Draw => draw_is_right(ration.begin(), program),
             Asked::Model => model_is_right(ration),
             Asked::Symptom => symptom_is_right(ration),
@@ -140,29 +140,25 @@ fn are_records<'m>(records: &Records<Memory<'m>>) -> bool {
     records.get(0) && !records.get(1) && !records.get(2) && records.get(3)
 }
 
-/// Whether the reference run's first records are those of the last run too.
-fn last_is_reference<'m>(batch: &Batch<Memory<'m>>) -> bool {
-    if batch.reference().len() != 8 {
-        return false;
-    }
-    are_records(batch.reference()) && batch.record(63, 0) && !batch.record(63, 1)
-}
-
+/// The records of the last run begin with 1001 too.
 fn batch_is_right<'m>(
     memory: Memory<'m>,
     program: &Program<'_, Memory<'m>>,
 ) -> Result<bool, Fault> {
     let batch = Batch::run(memory, program, &[], &[])?;
-    Ok(last_is_reference(&batch))
+    if program.record_count() != 8 {
+        return Ok(false);
+    }
+    Ok(batch.record(63, 0) && !batch.record(63, 1) && !batch.record(63, 2) && batch.record(63, 3))
 }
 
 /// The words that the reference run's collapses replaced would take more bytes than these.
-fn batch_along_is_right<'m>(
+fn reference_along_is_right<'m>(
     memory: Memory<'m>,
     program: &Program<'_, Memory<'m>>,
 ) -> Result<bool, Fault> {
-    let batch = Batch::in_room(memory, program, 60)?;
-    Ok(are_records(batch.reference()))
+    let reference = Reference::in_room(memory, program, 60)?;
+    Ok(are_records(reference.records()))
 }
 
 /// The third fault has probability 1, and the fourth 0. Where memory is wanted no word is taken.

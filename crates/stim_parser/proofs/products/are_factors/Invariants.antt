@@ -1,5 +1,5 @@
 use Rattle.std.proofs.Common.{◌≡◌, length}
-use Rattle.stim_parser.specs.private.Products.{are_factors}
+use Rattle.stim_parser.specs.Products.{are_factors}
 use Rattle.stim_parser.proofs.products.are_factors.Given as goal
 
 abbrev pub invariant-loop-left : goal.invariant-loop-left

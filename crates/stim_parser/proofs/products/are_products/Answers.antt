@@ -1,6 +1,6 @@
 use Rattle.std.proofs.Common.{◌&&◌, length, take, drop, ap, sym, ◌∙◌, ◌-◌}
 use Rattle.stim_parser.specs.Limits.{are_products}
-use Rattle.stim_parser.specs.private.Products.{are_factors}
+use Rattle.stim_parser.specs.Products.{are_factors}
 use Rattle.stim_parser.proofs.ProductSteps.{cut_one}
 use Rattle.stim_parser.proofs.ProductWords.{products-first}
 use Rattle.stim_parser.proofs.products.are_products.Goals as goal

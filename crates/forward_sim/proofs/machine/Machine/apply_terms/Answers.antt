@@ -4,7 +4,7 @@ use Rattle.pauli_word.specs.States.{applied}
 use Rattle.pauli_word.specs.Words.{lone_letter}
 use Rattle.step_model.specs.Listing.{word_of_terms}
 use Rattle.forward_sim.specs.private.Machines.{qubit_count, run_of}
-use Rattle.forward_sim.specs.private.SameRuns.{HoldSame}
+use Rattle.forward_sim.specs.SameRuns.{HoldSame}
 use Rattle.forward_sim.proofs.TermWords.{term_at, applied_more, applied_all}
 use Rattle.forward_sim.proofs.machine.Machine.apply_terms.Goals as goal
 

@@ -6,7 +6,7 @@ use Rattle.stim_parser.specs.Kept.{item_in}
 use Rattle.stim_parser.specs.declared.operation.Operation.{Operation}
 use Rattle.stim_parser.specs.declared.short_target.ShortTarget.{ShortTarget}
 use Rattle.stim_parser.specs.declared.target.Target.{Target}
-use Rattle.stim_lexer.specs.private.Passes.{CanStand}
+use Rattle.stim_lexer.specs.Passes.{CanStand}
 use Rattle.unroll.proofs.totals.Summing.pass.Goals as goal
 
 pub add-requires : goal.add-requires
