@@ -1,7 +1,7 @@
-ghost use Rattle.std.specs.Prelude.{◌≡◌, ◌<◌, ◌^◌, ◌⊎◌, ℕ, List, length, Ok, Err, IfOk, IfErr, OnOk, OnErr};
+ghost use Rattle.std.specs.Prelude.{◌≡◌, ◌<◌, ◌-◌, ◌^◌, ◌⊎◌, ℕ, List, length, Ok, Err, IfOk, IfErr, IfSome, IfNone, OnOk, OnErr, OnSome};
 ghost use Rattle.std.specs.Option.{option_map};
 ghost use Rattle.std.specs.List.Sorted.{IsStrictlyIncreasing};
-ghost use Rattle.step_model.specs.Ends.{HandsOutSome, IsAtEnd, read_failures};
+ghost use Rattle.step_model.specs.Ends.{HandsOutMany, HandsOutSome, IsAtEnd, read_failures};
 ghost use Rattle.step_model.specs.ErrorModels.{ErrorModel};
 ghost use Rattle.step_model.specs.Faults.{memory_fault, read_fault};
 ghost use Rattle.dem_text.specs.KeptTexts.{HasKept, IsKeptOf};
@@ -86,6 +86,28 @@ pub fn keep_text<S: Source, A: Allocator + Copy>(
     // One more where the source failed; otherwise as it was.
     ensures count { S.failures source.new ≡ read_failures result (S.failures source.old) }
 {
+    match keep_to_end(alloc, numbers, source)? {
+        Some(kept) => Ok(kept),
+        None => Err(Fault::MEMORY),
+    }
+}
+
+/// The same; nothing where the source has not ended after 2^64 - 1 calls, each of which hands out a byte at least.
+fn keep_to_end<S: Source, A: Allocator + Copy>(
+    alloc: A,
+    numbers: &[usize],
+    source: &mut S,
+) -> Result<Option<KeptText<A>>, Fault>
+    requires { IsStrictlyIncreasing numbers.now }
+    ensures kept { IfOk result (λ read. IfSome read
+        (λ kept. HasKept numbers.now (S.left source.old) (S.left source.new) kept)) }
+    ensures end { IfOk result (λ read. OnSome read (IsAtEnd (S.left source.new))) }
+    ensures endless { IfOk result (λ read. IfNone read (HandsOutMany (2 ^ 64 - 1)
+        (S.left source.old) (S.left source.new))) }
+    ensures fault { IfErr result (λ e. (e ≡ memory_fault) ⊎ (e ≡ read_fault)) }
+    ensures rest { OnErr result (HandsOutSome (S.left source.old) (S.left source.new)) }
+    ensures count { S.failures source.new ≡ read_failures result (S.failures source.old) }
+{
     let mut buffer = [0u8; PIECE];
     let mut text = Vec::new(alloc);
     let mut taken = Taken {
@@ -96,15 +118,15 @@ pub fn keep_text<S: Source, A: Allocator + Copy>(
     let mut leads = true;
     for _ in 0..u64::MAX {
         if read_piece(&mut buffer, &mut text, source)? == 0 {
-            return Ok(KeptText {
+            return Ok(Some(KeptText {
                 text,
                 named: taken.named,
                 counts: taken.counts,
-            });
+            }));
         }
         leads = take_front(leads, &mut text, &mut taken)?;
     }
-    Err(Fault::MEMORY)
+    Ok(None)
 }
 
 impl<A: Allocator + Copy> KeptText<A> {

@@ -1,11 +1,13 @@
-ghost use Rattle.std.specs.Prelude.{◌≡◌, ◌≤◌, length, None, IfOk, IfErr, OnErr};
-ghost use Rattle.std.specs.Io.KnownBytes.{ReadConsumes};
+ghost use Rattle.std.specs.Prelude.{◌≡◌, ◌≢◌, ◌<◌, ◌≤◌, take, length, None, IfOk, IfErr, IfSome, IfNone, OnErr};
+ghost use Rattle.std.specs.Io.{ReadsAtMost};
+ghost use Rattle.std.specs.IoError.{error_kind};
+ghost use Rattle.std.specs.Io.KnownBytes.{Consumes, IsAtEnd, Keeps, ReadConsumes};
 ghost use Rattle.step_model.specs.Ends.{read_failures};
 ghost use Rattle.step_model.specs.Faults.{read_fault};
 
 use crate::ends::Source;
 use crate::fault::Fault;
-use std::io::{ErrorKind, Read};
+use std::io::{self, ErrorKind, Read};
 
 /// How many bytes a reader is asked for in one call, at most.
 const PIECE: usize = 4096;
@@ -59,17 +61,34 @@ impl<R: Read + Drop> Source for ReaderSource<R> {
     {
         let mut piece = [0u8; PIECE];
         let room = buffer.len().min(PIECE);
-        for _ in 0..u64::MAX {
-            match self.reader.read(&mut piece[..room]) {
-                Ok(n) => {
-                    buffer[..n].copy_from_slice(&piece[..n]);
-                    return Ok(n);
-                }
-                Err(error) if error.kind() == ErrorKind::Interrupted => {}
-                Err(_) => break,
-            }
+        if let Some(Ok(n)) = uninterrupted(&mut self.reader, &mut piece[..room]) {
+            buffer[..n].copy_from_slice(&piece[..n]);
+            return Ok(n);
         }
         self.failures = self.failures.saturating_add(1);
         Err(Fault::READ)
     }
+}
+
+// What a reader answers, which is asked again after each interruption; nothing where 2^64 - 1 calls were interrupted.
+fn uninterrupted<R: Read>(reader: &mut R, piece: &mut [u8]) -> Option<io::Result<usize>>
+    ensures bound { IfSome result (λ answer. ReadsAtMost answer piece.new) }
+    ensures passed_on { IfSome result (λ answer. IfOk answer (λ n. Consumes (R.remaining reader.old)
+        (R.remaining reader.new) (take n piece.new))) }
+    ensures end { IfSome result (λ answer. IfOk answer (λ n. n ≡ 0
+        → 0 < length piece.old
+        → IsAtEnd (R.remaining reader.new))) }
+    ensures failed { IfSome result (λ answer. OnErr answer (Keeps (R.remaining reader.old)
+        (R.remaining reader.new))) }
+    ensures retried { IfSome result (λ answer. IfErr answer (λ e. error_kind e
+        ≢ ErrorKind.Interrupted)) }
+    ensures none { IfNone result (Keeps (R.remaining reader.old) (R.remaining reader.new)) }
+{
+    for _ in 0..u64::MAX {
+        match reader.read(piece) {
+            Err(error) if error.kind() == ErrorKind::Interrupted => {}
+            answer => return Some(answer),
+        }
+    }
+    None
 }

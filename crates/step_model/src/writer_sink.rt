@@ -1,11 +1,13 @@
-ghost use Rattle.std.specs.Prelude.{◌≡◌, ◌<◌, ◌≤◌, length, None, IfOk, IfErr};
-ghost use Rattle.std.specs.Io.KnownBytes.{WriteAppends};
+ghost use Rattle.std.specs.Prelude.{◌≡◌, ◌≢◌, ◌<◌, ◌≤◌, length, None, IfOk, IfErr, IfSome, IfNone};
+ghost use Rattle.std.specs.Io.{WritesAtMost};
+ghost use Rattle.std.specs.IoError.{error_kind};
+ghost use Rattle.std.specs.Io.KnownBytes.{Keeps, WriteAppends};
 ghost use Rattle.step_model.specs.Ends.{write_failures};
 ghost use Rattle.step_model.specs.Faults.{write_fault};
 
 use crate::ends::Sink;
 use crate::fault::Fault;
-use std::io::{ErrorKind, Write};
+use std::io::{self, ErrorKind, Write};
 
 /// A sink whose bytes a writer takes. A call in which the writer takes none of at least one byte has failed.
 #[derive(Drop)]
@@ -54,14 +56,29 @@ impl<W: Write + Drop> Sink for WriterSink<W> {
         ensures fault { IfErr result (λ e. e ≡ write_fault) }
         ensures count { self.new.failures ≡ write_failures result self.old.failures }
     {
-        for _ in 0..u64::MAX {
-            match self.writer.write(bytes) {
-                Ok(n) if 0 < n || bytes.is_empty() => return Ok(n),
-                Err(error) if error.kind() == ErrorKind::Interrupted => {}
-                _ => break,
-            }
+        match uninterrupted(&mut self.writer, bytes) {
+            Some(Ok(n)) if 0 < n || bytes.is_empty() => return Ok(n),
+            _ => {}
         }
         self.failures = self.failures.saturating_add(1);
         Err(Fault::WRITE)
     }
+}
+
+// What a writer answers, which is asked again after each interruption; nothing where 2^64 - 1 calls were interrupted.
+fn uninterrupted<W: Write>(writer: &mut W, bytes: &[u8]) -> Option<io::Result<usize>>
+    ensures bound { IfSome result (λ answer. WritesAtMost answer bytes.now) }
+    ensures passed_on { IfSome result (λ answer. WriteAppends (W.contents writer.old)
+        (W.contents writer.new) answer bytes.now) }
+    ensures retried { IfSome result (λ answer. IfErr answer (λ e. error_kind e
+        ≢ ErrorKind.Interrupted)) }
+    ensures none { IfNone result (Keeps (W.contents writer.old) (W.contents writer.new)) }
+{
+    for _ in 0..u64::MAX {
+        match writer.write(bytes) {
+            Err(error) if error.kind() == ErrorKind::Interrupted => {}
+            answer => return Some(answer),
+        }
+    }
+    None
 }

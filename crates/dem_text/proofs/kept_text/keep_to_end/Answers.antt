@@ -1,8 +1,9 @@
-use Rattle.std.proofs.Common.{◌∙◌, refl}
+use Rattle.std.proofs.Common.{◌∙◌, refl, subst, [], arith}
 use Rattle.std.proofs.lemmas.Result.{err_from_is_err_and}
-use Rattle.step_model.proofs.EndsLemmas.{HandsOut-kept}
+use Rattle.step_model.specs.Ends.{HandsOutMany}
+use Rattle.step_model.proofs.EndsLemmas.{HandsOut-kept, HandsOut-many, HandsOut-nil}
 use Rattle.dem_text.proofs.KeptTextLemmas.{gathered-first, gathered-kept, gathered-keeps, gathered-long, gathered-more, gathered-some}
-use Rattle.dem_text.proofs.kept_text.keep_text.Goals as goal
+use Rattle.dem_text.proofs.kept_text.keep_to_end.Goals as goal
 
 pub loop-init : goal.loop-init
 loop-init g c =
@@ -10,6 +11,7 @@ loop-init g c =
     let numbers = c.args.numbers.now in
     record {
       gathered = rw (c.new-text.ensures.items, c.new.ensures.items) (gathered-first numbers left c.requires);
+      calls = ([], HandsOut-nil left, omega arith);
       same_count = refl;
     }
 
@@ -21,6 +23,7 @@ pub loop-preserved : goal.loop-preserved
 loop-preserved g c =
     record {
       gathered = c.in_ok-leads.ensures _ _ _ (gathered-more _ _ _ _ _ _ _ _ _ _ c.loop.invariant.gathered c.in_ok-read_piece.ensures.piece);
+      calls = HandsOut-many _ _ _ _ _ c.loop.invariant.calls c.in_ok-read_piece.ensures.piece.handed_out (omega (arith, c.if-branch-eq0.false, c.in_ok-read_piece.ensures.piece.long));
       same_count = c.in_ok-read_piece.ensures.count ∙ c.loop.invariant.same_count;
     }
 
@@ -41,3 +44,6 @@ pub returns-in_err-leads-clause-rest : goal.returns-in_err-leads-clause-rest
 returns-in_err-leads-clause-rest g c =
     let p = err_from_is_err_and c.from_residual-in_err-leads.result c.from_residual-in_err-leads.ensures.1 in
     rw p.1 (gathered-some _ _ _ _ _ _ _ (gathered-more _ _ _ _ _ _ _ _ _ _ c.loop.invariant.gathered c.in_ok-read_piece.ensures.piece))
+
+pub returns-clause-endless : goal.returns-clause-endless
+returns-clause-endless g c = subst (λ n. HandsOutMany n (g.S.Source.left c.args.source.now) (g.S.Source.left c.loop.source)) (omega (arith, c.loop.auto.counter-end, c.loop-test.false)) c.loop.invariant.calls
