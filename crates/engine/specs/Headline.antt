@@ -4,9 +4,10 @@
 -- without faults under the second: the detectors and observables that differ are the exclusive or of those faults'
 -- targets in the model. So no target is random. Where its status is Random, the bytes name a random target and two coin
 -- lists under which the runs without faults differ in that target; no lower target is random, detectors being lower
--- than observables. So a text that stands for a program is answered Random exactly where some target is random. (A coin is the outcome of a collapse, the projective measurement inside a measurement or a reset,
--- where that outcome is random.) (Detectors, observables and their error models are Stim's, github.com/quantumlib/Stim;
--- the promise is this project's own.)
+-- than observables. So a text that stands for a program is answered Random exactly where some target is random. (A coin is
+-- the outcome of a collapse, the projective measurement inside a measurement or a reset, where that outcome is random.)
+-- (Detectors, observables and their error models are Stim's, github.com/quantumlib/Stim; the promise is this project's
+-- own.)
 use Rattle.std.specs.Prelude.{◌≡◌, ◌≢◌, ◌↔◌, ◌<◌, ◌∷◌, ◌++◌, ℕ, Bool, List, length, codes, Ok}
 use Rattle.step_model.specs.ErrorModels.{ErrorModel, Fits, IsExact}
 use Rattle.step_model.specs.Listing.{Listing}

@@ -1,6 +1,7 @@
 -- A Pauli frame is an unsigned word that begins at a place, the start or just after the whole step of a collapse, and
--- is carried forward by the gates; a reset clears it at its qubit. Each collapse has a flip: it is 1 where the frame
--- anticommutes with the collapse's word, and 0 for the collapses up to that at which the frame begins, itself included.
+-- is carried forward by the gates; a reset clears it at its qubit, and feedback multiplies it by its word where the frame
+-- flips the record that is read. Each collapse has a flip: it is 1 where the frame anticommutes with the collapse's word,
+-- and 0 for the collapses up to that at which the frame begins, itself included. It is that of its record too.
 -- The coin pair of a target is two lists of coins: all zeros, and the flips of the frame that begins at the target's
 -- place, as the word collapsed there or as Z at a qubit of the start. (A collapse is the projective measurement inside a
 -- measurement or a reset; its coin is the outcome where that is random.) (Knill, Quantum computing with realistically

@@ -1,9 +1,12 @@
--- The sensitivity of a target between two steps of a program: the unsigned word such that a Pauli fault there flips the
--- target exactly where it anticommutes with that word, and the records so far whose flips flip the target. After the last
--- step it is the identity, with the target's records. Going back over a gate the word becomes its preimage; over a
+-- The sensitivity of a target between two steps of a program: an unsigned word with a list of records so far. After the
+-- last step it is the identity, with the target's records. Going back over a gate the word becomes its preimage; over a
 -- collapse it is cleared at the qubit of a reset, and then multiplied by the collapsed word where its record is listed an
 -- odd number of times; over feedback, whose word is applied where a record is 1, that record is added where the
 -- feedback's word anticommutes with the sensitivity's; over a fault it stays.
+-- Of a target without a place, as said below, it tells what flips the target, whatever the coins: a Pauli fault exactly
+-- where it anticommutes with the word just after it, and the flip of a record exactly where the record is listed there an
+-- odd number of times. That is a law of run_laws, and no part of these definitions. Of a target with a place it isn't so:
+-- the coins change that target too.
 -- The place of a target is the latest collapse whose word anticommutes with the sensitivity just after it. Where there
 -- is no such collapse it is the start, at the lowest qubit at which the sensitivity there has X or Y; where there is no
 -- such qubit the target has no place. (A collapse is the projective measurement inside a measurement or a reset.)

@@ -1,8 +1,8 @@
 -- What a circuit says of its lines, as a table, by which each line is judged. The causes of refusals, in the order in which
--- they are asked:
+-- they are asked, behind that of a bad byte, which is asked of a line before it is judged:
 --     Block: `}` alone with no open block; a line of REPEAT whose one brace isn't a `{` at its end; any other brace.
---     LeftOut: the name is known and left out.
---     Name: the name is empty or unknown.
+--     Name, or LeftOut: no instruction has the name, or it is empty. This is one question: the cause is LeftOut where the
+--         name is one of those left out, and else Name.
 --     Arguments: a tag or parentheses stay open; a wrong number of arguments; an empty one; one of another form.
 --     Probability: the argument isn't a probability that is accepted.
 --     Target: a target of another form than the instruction takes.
