@@ -1,6 +1,7 @@
 """A repository with stand-ins for the toolchain's command `rt` and for the program that it builds, for tests of the launcher."""
 
 import contextlib
+import glob
 import os
 import shutil
 import signal
@@ -18,9 +19,20 @@ tac touch xargs""".split()
 # Notes its words and the copy's lines, and builds by a copy of the stand-in program that names the code in which it was built. A file
 # beside it asks for something else: `sleeps` for a build that doesn't end, `slow` for one of a second, `fails` for one that fails,
 # `fails-to-check` for a check that fails, `fails-behind` for a build that fails when the program is written, `builds-nothing` for one
-# that writes none, and `edits` for code that changes after it was read. A check leaves what the real one keeps.
+# that writes none, and `edits` for code that changes after it was read. A check leaves what the real one keeps. As the real one it says
+# which crates it proved, and keeps these by their files and those of the crates before them, for later calls in other folders.
 RT = """#!/bin/sh
 here=${0%/*}
+prove() {
+    sum=$sum$(cd "crates/$1" && find . -type f | sort | xargs sha256sum)
+    kept=$here/kept-$1-$(echo "$sum" | cksum | sed 's/ .*//')
+    [ -e "$kept" ] && { echo "rt: $1 is kept: an earlier run on this machine proved the same files"; return; }
+    echo "== $1"
+    echo "logic=proved functions=1"
+    echo "rt: $1 proved"
+    touch "$kept"
+}
+pause() { [ -e "$here/sleeps" ] && { touch "$here/sleeping"; sleep 100; }; }
 echo "$*" >>"$here/calls"
 echo "${GLIBC_TUNABLES-unset}" >>"$here/tunables"
 cat >>"$here/stdin"
@@ -28,12 +40,17 @@ if [ "$1" = ci ]; then
     pwd >"$here/copy"
     find . -type f | sort >"$here/copied"
     cat crates.txt >>"$here/copied"
+    for name in $(sed 's/:.*//' crates.txt); do
+        [ "$name" = stabsim ] && pause
+        prove "$name"
+    done
     cd crates/stabsim && mkdir out || exit 1
 else
     mkdir -p ../low/out/incremental ../low/out/rlib
+    printf '%s\\n' '== base' '== low' 'logic=proved functions=2' '== stabsim' 'logic=proved functions=3' '== summary'
     [ "$1" = run ] || { [ ! -e "$here/fails-to-check" ]; exit; }
+    pause
 fi
-[ -e "$here/sleeps" ] && { touch "$here/sleeping"; sleep 100; }
 [ -e "$here/slow" ] && sleep 1
 [ -e "$here/fails" ] && { echo 'goal 7 is open'; echo 'not proved' >&2; exit 1; }
 [ -e "$here/builds-nothing" ] && exit 0
@@ -54,6 +71,7 @@ exit "${STAND_IN_STATUS-0}"
 
 FILES = {
     "crates.txt": "# Ground.\nbase:\nlow: base arrayvec\n\n# The program.\nstabsim: clap low\n\n# Tests.\nlow_tests: low\n",
+    ".ci/build-times": "# Seconds.\nbase 600\nlow 1200\nstabsim 60\n",
     "HANDLES": "Handles allowed: none.\n",
     "README.md": "Read me.\n",
     "crates/base/src/lib.rt": "base\n",
@@ -100,7 +118,7 @@ class Case(unittest.TestCase):
             os.symlink(shutil.which(name), f"{self.tools}/{name}")
         self.write(f"{self.rt}/rt", RT, mode=0o755)
         self.write(f"{self.rt}/program", PROGRAM)
-        for name in ("stabsim", ".ci/build", ".ci/lanes", ".ci/sums"):
+        for name in ("stabsim", ".ci/build", ".ci/lanes", ".ci/progress", ".ci/sums"):
             self.copy(name)
         for name, text in FILES.items():
             self.write(f"{self.top}/{name}", text)
@@ -108,6 +126,7 @@ class Case(unittest.TestCase):
         self.age_all()
         for name in ("calls", "tunables", "stdin"):
             os.remove(f"{self.rt}/{name}")
+        self.forget_proofs()
 
     def write(self, path, text, mode=0o644):
         os.makedirs(os.path.dirname(path), exist_ok=True)
@@ -224,6 +243,10 @@ class Case(unittest.TestCase):
         self.assert_runs("word", code=code)
         shutil.move(f"{self.room}/away", f"{self.top}/.ci")
         self.assertEqual(self.calls(), [])
+
+    def forget_proofs(self):
+        for path in glob.glob(f"{glob.escape(self.rt)}/kept-*"):
+            os.remove(path)
 
     def keep(self):
         """Leaves what a check keeps."""

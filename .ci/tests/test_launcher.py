@@ -224,7 +224,8 @@ class Fails(Case):
         self.assertEqual(ended.returncode, 125)
         self.assertEqual(ended.stdout, b"")
         self.assertIn(b"goal 7 is open\nnot proved\n", ended.stderr)
-        self.assertEqual(self.read(f"{self.top}/crates/stabsim/out/launcher.log"), "goal 7 is open\nnot proved\n")
+        log = self.read(f"{self.top}/crates/stabsim/out/launcher.log")
+        self.assertTrue(log.endswith("rt: stabsim proved\ngoal 7 is open\nnot proved\n"), log)
         self.assert_no_copy()
 
     def test_a_failed_check_is_125_and_builds_nothing(self):
@@ -281,7 +282,7 @@ class Fails(Case):
         self.assertEqual(ended.stdout, b"")
         self.assertIn(b"Rattle toolchain", ended.stderr)
         self.assertIn(b"rt has to be in PATH", ended.stderr)
-        self.assertNotIn(b"half an hour", ended.stderr)
+        self.assertNotIn(b"proving", ended.stderr)
         self.assert_builds(code="second code")
 
     def test_no_toolchain_in_a_fresh_clone(self):

@@ -1,7 +1,7 @@
 -- A program: the unrolled circuit, as a list of steps with what they name. A collapse is the projective measurement
 -- inside a measurement or a reset; its coin is the outcome where that is random. Collapses are counted from 0 in the order
--- of the steps. Records and faults have the numbers that the steps say; in every program of a text these too go from 0 in
--- the order of the steps, each once (WellFormed.antt). (Stim's circuit format.)
+-- of the steps. Records and faults have the numbers that the steps say; in each program that is made of a text these too
+-- go from 0 in the order of the steps, each once (WellFormed.antt). (Stim's circuit format.)
 use Rattle.std.specs.Prelude.{ℕ, ℤ, List, [], ◌∷◌, Option, Some, Bool, true, false, slice_index_or}
 use Rattle.gate_table.specs.declared.gate.Gate.{Gate}
 use Rattle.step_model.specs.declared.step.Term.{Term}
