@@ -75,6 +75,14 @@ class Told(Case):
         self.assertEqual(first, "stabsim: base was proved by an earlier run: 1 of 3 crates in 0 min, roughly 21 min to go")
         self.assertEqual([until_to_go(it) for it in others], ["stabsim: low proved: 2 of 3 crates in 0 min", f"stabsim: stabsim proved: {LAST}"])
 
+    def test_a_build_goes_on_where_nobody_reads_what_is_told(self):
+        self.write(f"{self.rt}/slow", "")
+        started = self.start_call("word")
+        self.assertIn(b"proving", started.stderr.readline())
+        started.stderr.close()
+        self.assertEqual(started.stdout.read(), self.expected("word"))
+        self.assertEqual(started.wait(timeout=20), 0)
+
     def test_the_log_has_what_rt_said(self):
         self.told()
         log = self.read(f"{self.top}/crates/stabsim/out/launcher.log")
