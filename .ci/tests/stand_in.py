@@ -168,9 +168,9 @@ class Case(unittest.TestCase):
         environment = self.environment(with_rt, **more)
         return subprocess.run([*command, *words], input=stdin, cwd=cwd, env=environment, capture_output=True, timeout=60)
 
-    def start_call(self, *words):
+    def start_call(self, *words, stderr=subprocess.PIPE):
         """Starts a call in a process group of its own, which heeds signals that the tests' own process may ignore."""
-        how = {"stdin": subprocess.DEVNULL, "stdout": subprocess.PIPE, "stderr": subprocess.PIPE, "start_new_session": True}
+        how = {"stdin": subprocess.DEVNULL, "stdout": subprocess.PIPE, "stderr": stderr, "start_new_session": True}
         heed = lambda: [signal.signal(it, signal.SIG_DFL) for it in ENDS]
         started = subprocess.Popen([f"{self.top}/stabsim", *words], env=self.environment(), preexec_fn=heed, **how)
         self.addCleanup(self.end, started)
@@ -183,7 +183,8 @@ class Case(unittest.TestCase):
             os.killpg(self.builder(), signal.SIGKILL)
         started.wait()
         started.stdout.close()
-        started.stderr.close()
+        if started.stderr:
+            started.stderr.close()
 
     def processes(self):
         """Yields the group and the command of each process that hasn't ended."""

@@ -130,6 +130,18 @@ class Interrupted(Case):
                 self.assertIn(b"low proved: 2 of 3 crates", told)
                 self.assertIn(b"stabsim: interrupted\nstabsim: the next call need not prove again what was proved", told)
 
+    def test_an_interrupt_on_a_terminal_is_told_on_a_line_of_its_own(self):
+        self.make_missing()
+        self.write(f"{self.rt}/sleeps", "")
+        ours, theirs = pty.openpty()
+        started = self.start_call("word", stderr=theirs)
+        os.close(theirs)
+        with os.fdopen(ours, "rb", buffering=0) as terminal:
+            self.read_until(terminal, b"proved 2 of 3")
+            os.killpg(started.pid, signal.SIGINT)
+            told = self.read_until(terminal, b"need not prove again")
+        self.assertRegex(told, rb"\r\nstabsim: interrupted\r\n")
+
     def test_the_next_call_proves_what_is_left(self):
         self.interrupted(signal.SIGINT)
         lines = self.call().stderr.decode().splitlines()[1:]
