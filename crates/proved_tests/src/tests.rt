@@ -1,5 +1,6 @@
 mod calls;
 mod circuits;
+mod findings;
 mod orders;
 mod sweeps;
 mod tables;

@@ -7,6 +7,7 @@ mod by_name;
 mod coin_pairs;
 mod drawn_shots;
 mod faults;
+mod gates;
 mod lines;
 mod lists;
 mod numbers;

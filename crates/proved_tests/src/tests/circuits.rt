@@ -1,3 +1,4 @@
 mod analyses;
+mod drawn;
 mod entries;
 mod parts;

@@ -1,6 +1,7 @@
 //! What the analysis of a circuit finds, by both trackers, part by part.
-use crate::tests::words::{dense_words, sparse_words};
-use backward::{Analysed, analyse, first_random};
+use crate::tests::findings::{by_dense, by_sparse};
+use crate::tests::words::sparse_words;
+use backward::{Analysed, first_random};
 use error_models::Model;
 use programs::Program;
 use run_laws::constancy;
@@ -8,28 +9,6 @@ use std::alloc::Global;
 use std::test::Fail;
 use step_model::{Fault, Place};
 use unroll::read_program;
-
-/// The analysis by rows of bits.
-fn by_dense<'p>(
-    alloc: Global,
-    program: &Program<'p, Global>,
-) -> Result<Analysed<'p, Global>, Fault> {
-    match dense_words(alloc, program) {
-        Ok(words) => analyse(alloc, program, words),
-        Err(_) => Err(Fault::MEMORY),
-    }
-}
-
-/// The analysis by lists of targets.
-fn by_sparse<'p>(
-    alloc: &Global,
-    program: &Program<'p, Global>,
-) -> Result<Analysed<'p, Global>, Fault> {
-    match sparse_words(alloc, program) {
-        Ok(words) => analyse(*alloc, program, words),
-        Err(_) => Err(Fault::MEMORY),
-    }
-}
 
 /// The second fault flips nothing.
 const CIRCUIT: &[u8] = b"\

@@ -164,6 +164,31 @@ fn commuting(rt: HostRuntime) {
     }
 }
 
+/// Sets the same letter at the first and at the last of 4,096 qubits.
+fn set_ends(word: &mut Word<Global>, letter: Letter)
+    requires { length word.old.letters ≡ 4096 }
+    ensures { length word.new.letters ≡ 4096 }
+{
+    word.set_letter(0, letter);
+    word.set_letter(4_095, letter);
+}
+
+/// Whether X at both ends times Z at both is minus Y at both: (-i)(-i) = -1.
+fn multiplies_ends(rt: &impl Abort, alloc: Global) -> Result<bool, AllocError> {
+    let mut word = Word::identity(alloc, 4_096)?;
+    let mut other = Word::identity(alloc, 4_096)?;
+    set_ends(&mut word, X);
+    set_ends(&mut other, Z);
+    assert!(rt; word.commutes(&other));
+    let brought_minus = times(&mut word, &other);
+    Ok(brought_minus && word.sign() && word.letter(0) == Y && word.letter(4_095) == Y)
+}
+
+#[test]
+fn letters_far_apart(rt: HostRuntime) {
+    assert!(rt; matches!(multiplies_ends(&rt, rt.alloc()), Ok(true)));
+}
+
 // No machine has this much memory.
 #[test]
 fn too_long_a_word(rt: HostRuntime) {
