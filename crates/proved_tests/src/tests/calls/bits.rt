@@ -80,13 +80,14 @@ fn power_of(first: (bool, bool), second: (bool, bool)) -> u8 {
 /// The power of i of the product of the words, summed place by place.
 fn power_of_places(n: usize) -> u8 {
     let [xa, za, xb, zb] = WORDS;
-    let mut power = 0;
+    let mut power = 0u8;
     for i in 0..n {
         let first = (bit_at(xa, i), bit_at(za, i));
         let second = (bit_at(xb, i), bit_at(zb, i));
-        power = (power + power_of(first, second)) % 4;
+        power = power.wrapping_add(power_of(first, second));
     }
-    power
+    // 4 divides 256, so what wraps is no matter
+    power % 4
 }
 
 fn has_power_of_places(alloc: Global, n: usize) -> Result<bool, AllocError> {
@@ -102,7 +103,10 @@ fn has_power_of_places(alloc: Global, n: usize) -> Result<bool, AllocError> {
 fn words_of_mixed_letters(rt: HostRuntime) {
     assert!(rt; power_of_places(20) == 1);
     for n in LENGTHS {
-        assert!(rt; matches!(has_power_of_places(rt.alloc(), n), Ok(true)), "{n}");
+        assert!(rt;
+            matches!(has_power_of_places(rt.alloc(), n), Ok(true)),
+            "{n}"
+        );
     }
 }
 

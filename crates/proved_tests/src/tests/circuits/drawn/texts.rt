@@ -49,7 +49,10 @@ fn pair(plan: Plan, draws: &mut Pcg64) -> (&'static str, &'static str) {
     let first = below(draws, plan.qubits);
     let further = below(draws, plan.qubits.saturating_sub(1)).saturating_add(1);
     let second = first.saturating_add(further).checked_rem(plan.qubits);
-    (word_at(NUMBERS, first), word_at(NUMBERS, second.unwrap_or(0)))
+    (
+        word_at(NUMBERS, first),
+        word_at(NUMBERS, second.unwrap_or(0)),
+    )
 }
 
 /// The gate of a seed, or the one that undoes it.
@@ -64,7 +67,10 @@ fn put_gate(
     if below(&mut draws, 3) == 0 {
         put(text, &[one_of(&mut draws, names.one), " ", first, "\n"])
     } else {
-        put(text, &[one_of(&mut draws, names.two), " ", first, " ", second, "\n"])
+        put(
+            text,
+            &[one_of(&mut draws, names.two), " ", first, " ", second, "\n"],
+        )
     }
 }
 
@@ -74,44 +80,80 @@ fn put_fault(text: &mut String<Global>, plan: Plan, draws: &mut Pcg64) -> Result
     let (first, second) = pair(plan, draws);
     if below(draws, 3) == 0 {
         let (one, other) = (one_of(draws, LETTERS), one_of(draws, LETTERS));
-        put(text, &["E(", chance, ") ", one, first, " ", other, second, "\n"])
+        put(
+            text,
+            &["E(", chance, ") ", one, first, " ", other, second, "\n"],
+        )
     } else {
         let name = one_of(draws, "X_ERROR Y_ERROR Z_ERROR");
         put(text, &[name, "(", chance, ") ", first, " ", second, "\n"])
     }
 }
 
-/// So many gates and then those that undo them, with faults among them.
+/// The gate of a seed, or the one that undoes it, and then a fault or none.
+fn put_gate_and_fault(
+    text: &mut String<Global>,
+    plan: Plan,
+    draws: &mut Pcg64,
+    seed: u64,
+    names: &Names,
+) -> Result<(), AllocError> {
+    put_gate(text, plan, seed, names)?;
+    if below(draws, 2) == 0 {
+        put_fault(text, plan, draws)?;
+    }
+    Ok(())
+}
+
+/// So many gates, with faults among them.
 fn put_gates(
     text: &mut String<Global>,
     plan: Plan,
     draws: &mut Pcg64,
-    depth: u8,
+    seed: u64,
+    depth: u64,
 ) -> Result<(), AllocError> {
-    let depth = depth as u64;
-    let seed = draws.next_word();
-    for place in 0..2 * depth {
-        if place < depth {
-            put_gate(text, plan, seed.wrapping_add(place), &GATES)?;
-        } else {
-            put_gate(text, plan, seed.wrapping_add(2 * depth - 1 - place), &INVERSES)?;
-        }
-        if below(draws, 2) == 0 {
-            put_fault(text, plan, draws)?;
-        }
+    for place in 0..depth {
+        put_gate_and_fault(text, plan, draws, seed.wrapping_add(place), &GATES)?;
+    }
+    Ok(())
+}
+
+/// Undoes them, from the last to the first.
+fn put_inverses(
+    text: &mut String<Global>,
+    plan: Plan,
+    draws: &mut Pcg64,
+    seed: u64,
+    depth: u64,
+) -> Result<(), AllocError> {
+    for place in (0..depth).rev() {
+        put_gate_and_fault(text, plan, draws, seed.wrapping_add(place), &INVERSES)?;
     }
     Ok(())
 }
 
 /// The letter with which a qubit begins.
 fn letter_of(plan: Plan, qubit: u64) -> &'static str {
-    one_of(&mut Pcg64::seed_from_u64(plan.seed.wrapping_add(qubit)), LETTERS)
+    one_of(
+        &mut Pcg64::seed_from_u64(plan.seed.wrapping_add(qubit)),
+        LETTERS,
+    )
 }
 
 /// Resets each qubit to its letter.
 fn put_resets(text: &mut String<Global>, plan: Plan) -> Result<(), AllocError> {
     for qubit in 0..plan.qubits {
-        put(text, &["R", letter_of(plan, qubit), " ", word_at(NUMBERS, qubit), "\n"])?;
+        put(
+            text,
+            &[
+                "R",
+                letter_of(plan, qubit),
+                " ",
+                word_at(NUMBERS, qubit),
+                "\n",
+            ],
+        )?;
     }
     Ok(())
 }
@@ -125,7 +167,10 @@ fn put_product(
 ) -> Result<(), AllocError> {
     put(text, &[one_of(draws, "MPP mpp(.0625) MPP(0.125)")])?;
     for place in 0..=below(draws, plan.qubits.min(3)) {
-        let qubit = first.saturating_add(place).checked_rem(plan.qubits).unwrap_or(0);
+        let qubit = first
+            .saturating_add(place)
+            .checked_rem(plan.qubits)
+            .unwrap_or(0);
         let joint = if place == 0 { " " } else { "*" };
         let (letter, number) = (letter_of(plan, qubit), word_at(NUMBERS, qubit));
         put(text, &[joint, inversion(draws), letter, number])?;
@@ -141,7 +186,10 @@ fn put_measurement(
     qubit: &str,
 ) -> Result<(), AllocError> {
     let (name, chance) = (one_of(draws, "M MR"), one_of(draws, "() (0.5) (.25)"));
-    put(text, &[name, letter, chance, " ", inversion(draws), qubit, "\n"])
+    put(
+        text,
+        &[name, letter, chance, " ", inversion(draws), qubit, "\n"],
+    )
 }
 
 /// The check of a seed: a product, or the letter of one qubit.
@@ -190,7 +238,17 @@ fn put_feedback(
     if below(draws, 4) == 0 {
         put(text, &["CZ ", qubit, " rec[-", back, "]\n"])
     } else {
-        put(text, &[one_of(draws, "CX CY CZ cnot ZCY"), " rec[-", back, "] ", qubit, "\n"])
+        put(
+            text,
+            &[
+                one_of(draws, "CX CY CZ cnot ZCY"),
+                " rec[-",
+                back,
+                "] ",
+                qubit,
+                "\n",
+            ],
+        )
     }
 }
 
@@ -223,8 +281,9 @@ fn put_rounds(text: &mut String<Global>, plan: Plan, draws: &mut Pcg64) -> Resul
 fn put_turns(text: &mut String<Global>, plan: Plan, draws: &mut Pcg64) -> Result<(), AllocError> {
     put_checks(text, plan)?;
     put(text, &["REPEAT ", one_of(draws, "1 2 3 4"), " {\n"])?;
-    let depth = below(draws, 6) as u8;
-    put_gates(text, plan, draws, depth)?;
+    let (seed, depth) = (draws.next_word(), below(draws, 6));
+    put_gates(text, plan, draws, seed, depth)?;
+    put_inverses(text, plan, draws, seed, depth)?;
     put_rounds(text, plan, draws)?;
     let back = below(draws, plan.checks).saturating_add(1);
     let (qubit, _) = pair(plan, draws);

@@ -103,6 +103,9 @@ fn samples_as_drawn(alloc: Global, seed: u64) -> Result<bool, Fault> {
 #[test]
 fn shots_one_after_another(rt: HostRuntime) {
     for seed in [0, 5] {
-        assert!(rt; matches!(samples_as_drawn(rt.alloc(), seed), Ok(true)), "seed {seed}");
+        assert!(rt;
+            matches!(samples_as_drawn(rt.alloc(), seed), Ok(true)),
+            "seed {seed}"
+        );
     }
 }

@@ -41,8 +41,7 @@ fn a_million_records(rt: HostRuntime) {
 }
 
 /// As many steps behind it as the limit of 64,000,000 leaves: 30,499,500 turns of two.
-const FULL: &[u8] =
-    b"REPEAT 1000 {\nREPEAT 1000 {\nM 0\n}\n}\nREPEAT 30499500 {\nTICK\n}\n";
+const FULL: &[u8] = b"REPEAT 1000 {\nREPEAT 1000 {\nM 0\n}\n}\nREPEAT 30499500 {\nTICK\n}\n";
 
 /// One more.
 const BEYOND: &[u8] =
