@@ -1,0 +1,191 @@
+"""What stands on several pages agrees: figures, and lists of crates and of files, with one another and with the tree.
+
+A figure is a row of FIGURES, with each place where it stands: a page, and a regular expression that is found there once, whose first
+group is the figure. Who changes a sentence changes its row here.
+"""
+import re
+import unittest
+from pathlib import Path
+
+TOP = Path(__file__).resolve().parents[2]
+
+README, BUILD = "README.md", ".ci/build"
+FORMATS, COMPARED, BENCH, DECISIONS = "docs/FORMATS.md", "docs/COMPARED.md", "docs/BENCH.md", "docs/DECISIONS.md"
+STATEMENT, GATE, PROVED, ARCHITECTURE = "docs/STATEMENT.md", "docs/GATE.md", "docs/PROVED.md", "docs/ARCHITECTURE.md"
+FROM_STIM, HELP = "docs/FROM_STIM.md", "crates/command_line/src/help.rt"
+REFUSALS, NUMBERS = "crates/unroll/src/refusals.rt", "crates/stim_parser/src/numbers.rt"
+
+NUMBER = r"(\d[\d,_]*)"
+
+FIGURES = {
+    "lines of definitions that a reader has to believe": [
+        (README, rf"\*\*Trusted\*\*: {NUMBER} lines of definitions"),
+        (STATEMENT, rf"reach, name by name, have {NUMBER} lines"),
+        (GATE, rf"Of the definitions a reader has to believe {NUMBER} lines"),
+    ],
+    "logic of the toolchain": [
+        (README, r"`logic ([0-9a-f]{16})`"),
+        (PROVED, r"^    logic ([0-9a-f]{16})$"),
+    ],
+    "greatest qubit": [
+        (FORMATS, rf"number of a qubit \| {NUMBER} \|"),
+        (FROM_STIM, rf"greatest qubit is {NUMBER}\."),
+        (NUMBERS, rf"GREATEST_QUBIT: u64 = {NUMBER};"),
+    ],
+    "qubits": [
+        (README, rf"A circuit has at most {NUMBER} qubits"),
+        (COMPARED, rf"\| greatest circuit \| {NUMBER} qubits"),
+    ],
+    "records": [
+        (README, rf"qubits, {NUMBER} records"),
+        (COMPARED, rf"qubits, {NUMBER} records"),
+        (FORMATS, rf"records; collapses \| {NUMBER} each"),
+        (HELP, rf"Keep to {NUMBER} records"),
+        (REFUSALS, rf"MOST_RECORDS: u64 = {NUMBER};"),
+        (REFUSALS, rf"MOST_COLLAPSES: u64 = {NUMBER};"),
+    ],
+    "detectors": [
+        (README, rf"records, {NUMBER} detectors"),
+        (COMPARED, rf"records, {NUMBER} detectors"),
+        (FORMATS, rf"^\| detectors \| {NUMBER} \|"),
+        (REFUSALS, rf"MOST_DETECTORS: u64 = {NUMBER};"),
+    ],
+    "observables": [
+        (README, rf"detectors, {NUMBER} observables"),
+        (FORMATS, rf"^\| observables \| {NUMBER} \|"),
+        ("crates/unroll/src/observables.rt", rf"MOST_OBSERVABLES: u64 = {NUMBER};"),
+    ],
+    "steps": [
+        (README, rf"observables and {NUMBER} steps"),
+        (FORMATS, rf"^\| steps \| {NUMBER} \|"),
+        (FORMATS, rf"Time isn't bounded so: {NUMBER} steps"),
+        (DECISIONS, rf"times the steps, of which there are at most {NUMBER}\."),
+        (REFUSALS, rf"MOST_STEPS: u64 = {NUMBER};"),
+    ],
+    "shots of a command": [
+        (README, rf"is required and at most {NUMBER};"),
+        (README, rf"One command draws at most {NUMBER} shots"),
+        (FORMATS, rf"\| more than {NUMBER} shots \|"),
+        (DECISIONS, rf"At most {NUMBER} shots a command"),
+        ("crates/engine/src/drawing.rt", rf"MOST_SHOTS: u64 = {NUMBER};"),
+    ],
+    "lines that the blocks of a model unroll to": [
+        (FORMATS, rf"lines that blocks unroll to \| {NUMBER} \|"),
+        ("crates/dem_text/src/unrolled.rt", rf"MOST_LINES: u128 = {NUMBER};"),
+    ],
+}
+
+
+def page(name):
+    return (TOP / name).read_text()
+
+
+def crates():
+    """The crates of crates.txt, in its order."""
+    return re.findall(r"^(\w+):", page("crates.txt"), re.MULTILINE)
+
+
+def in_code(text):
+    """The words between backticks."""
+    return re.findall(r"`([^`]+)`", text)
+
+
+def section(title):
+    """The text of docs/ARCHITECTURE.md under a title, up to the next one of its depth."""
+    return re.split(r"^## ", page(ARCHITECTURE).split(f"\n## {title}\n", 1)[1], maxsplit=1, flags=re.MULTILINE)[0]
+
+
+class PagesTest(unittest.TestCase):
+    def figure_in(self, name, expression):
+        """The figure that stands in a page, in plain digits."""
+        found = re.findall(expression, page(name), re.MULTILINE)
+        self.assertEqual(len(found), 1, f"{name} has '{expression}' {len(found)} times")
+        return re.sub("[,_]", "", found[0])
+
+
+class Figures(PagesTest):
+    def test_figures_are_the_same_in_each_place(self):
+        for figure, places in FIGURES.items():
+            with self.subTest(figure=figure):
+                values = {f"{name}: {expression}": self.figure_in(name, expression) for name, expression in places}
+                self.assertEqual(len(set(values.values())), 1, values)
+
+    def test_qubits_are_one_more_than_the_greatest(self):
+        name, expression = FIGURES["greatest qubit"][0]
+        self.assertEqual(self.figure_in(*FIGURES["qubits"][0]), str(int(self.figure_in(name, expression)) + 1))
+
+    def test_the_parts_of_the_statement_have_its_lines(self):
+        parts = re.findall(r"^## \d\. .* \((\d+) lines\)$", page(STATEMENT), re.MULTILINE)
+        total = self.figure_in(*FIGURES["lines of definitions that a reader has to believe"][1])
+        self.assertEqual(sum(map(int, parts)), int(total), parts)
+
+
+class OfTheGate(PagesTest):
+    """The last row of the table in docs/GATE.md, and what is said of it elsewhere."""
+
+    def last_row(self):
+        rows = re.findall(r"^\| \d{4}-\d\d-\d\d \|.*$", page(GATE), re.MULTILINE)
+        return [cell.strip() for cell in rows[-1].strip("|").split("|")]
+
+    def test_crates_and_wrong_bodies_are_those_of_the_tree(self):
+        tried, more = (sum(1 for folder in folders for _ in TOP.glob(f"crates/*/{folder}/*.edit"))
+                       for folders in (("must-fail", "wrong-bodies"), ("more-wrong-bodies",)))
+        self.assertEqual(self.last_row()[-2:], [str(len(crates())), str(tried)])
+        self.assertEqual(self.figure_in(GATE, rf"`.ci/wrong-bodies --all` tries {NUMBER} more wrong bodies"), str(more))
+        of_crates = sum(1 for _ in TOP.glob("crates/*/wrong-bodies/*.edit"))
+        self.assertEqual(self.figure_in(GATE, rf"of a processor for the {NUMBER} of the gate"), str(of_crates))
+
+
+class OfTheTree(PagesTest):
+    """The lists of docs/ARCHITECTURE.md, and the files of the crates."""
+
+    def test_each_crate_has_a_paragraph(self):
+        """In docs/ARCHITECTURE.md one, and in docs/PROVED.md a section, in the order of crates.txt."""
+        told = re.findall(r"^\*\*(\w+)\*\*", section("The crates"), re.MULTILINE)
+        self.assertEqual(sorted(told), sorted(crates()))
+        proved = [name for title in re.findall(r"^### (.*)$", page(PROVED), re.MULTILINE) for name in title.split(", ")]
+        self.assertEqual(proved, crates())
+
+    def test_each_file_of_specs_is_told(self):
+        """Those that crates above use in a table, and those of specs/private in a line under it."""
+        parts = re.split(r"^\*\*(\w+)\*\*$", section("Where each definition stands"), flags=re.MULTILINE)
+        told = dict(zip(parts[1::2], parts[2::2]))
+        self.assertEqual(sorted(told), sorted(path.parent.name for path in TOP.glob("crates/*/specs")))
+        for crate, text in told.items():
+            specs = TOP / "crates" / crate / "specs"
+            table, _, private = text.partition("Private:")
+            with self.subTest(crate=crate):
+                public = re.findall(r"^\| `(\w+)` \|", table, re.MULTILINE)
+                self.assertEqual(public, sorted(path.stem for path in specs.glob("*.antt") if path.stem not in ("Lib", "private")))
+                self.assertEqual(in_code(private), sorted(path.stem for path in specs.glob("private/*.antt")))
+
+    def test_each_file_to_look_at_is_there(self):
+        for row in re.findall(r"^\| [^|]* \| ([^|]*) \|$", section("Where to look"), re.MULTILINE):
+            for part in row.split("; "):
+                if ":" in part:
+                    crate, *files = in_code(part)
+                    for file in files:
+                        with self.subTest(crate=crate, file=file):
+                            self.assertTrue((TOP / "crates" / crate / "src" / f"{file}.rt").is_file())
+
+    def test_private_definitions_are_used_in_their_own_crate_alone(self):
+        for crate in crates():
+            for part in "src", "specs", "proofs":
+                for path in (TOP / "crates" / crate / part).rglob("*.??t*"):
+                    others = set(re.findall(r"Rattle\.(\w+)\.specs\.private", path.read_text())) - {crate}
+                    self.assertEqual(others, set(), path)
+
+
+class OfTheBenchmarks(PagesTest):
+    """Times that other pages quote from the table of docs/BENCH.md: that of the row, rounded."""
+
+    QUOTED = [
+        (README, r"distance 25 with 25 rounds is analysed in ([\d.]+) s", "surface 25 25 | analyze"),
+    ]
+
+    def test_times_are_those_of_the_benchmarks(self):
+        for name, expression, row in self.QUOTED:
+            with self.subTest(row=row):
+                quoted = self.figure_in(name, expression)
+                measured = float(self.figure_in(BENCH, rf"^\| {re.escape(row)} \| ([\d.]+) \|"))
+                self.assertEqual(f"{measured:.{len(quoted.partition('.')[2])}f}", quoted)
