@@ -1,7 +1,7 @@
 """What stands on several pages agrees: figures, and lists of crates and of files, with one another and with the tree.
 
 A figure is a row of FIGURES, with each place where it stands: a page, and a regular expression that is found there once, whose first
-group is the figure. Who changes a sentence changes its row here.
+group is the figure. A blank of it stands for any, and for the end of a line too. Who changes a sentence changes its row here.
 """
 import re
 import unittest
@@ -15,17 +15,39 @@ STATEMENT, GATE, PROVED, ARCHITECTURE = "docs/STATEMENT.md", "docs/GATE.md", "do
 FROM_STIM, HELP = "docs/FROM_STIM.md", "crates/command_line/src/help.rt"
 REFUSALS, NUMBERS = "crates/unroll/src/refusals.rt", "crates/stim_parser/src/numbers.rt"
 
-NUMBER = r"(\d[\d,_]*)"
+NUMBER, DECIMAL, DATE = r"(\d[\d,_]*)", r"(\d+\.\d+)", r"\d{4}-\d\d-\d\d"
 
 FIGURES = {
     "lines of definitions that a reader has to believe": [
-        (README, rf"\*\*Trusted\*\*: {NUMBER} lines of definitions"),
+        (README, rf"{NUMBER} lines of definitions"),
         (STATEMENT, rf"reach, name by name, have {NUMBER} lines"),
         (GATE, rf"Of the definitions a reader has to believe {NUMBER} lines"),
     ],
+    "gigahertz of the cores that gate and first build were measured on": [
+        (README, rf"minutes on four cores of {DECIMAL} GHz"),
+        (BUILD, rf"minutes on four cores of {DECIMAL} GHz"),
+        (GATE, rf"^On four Intel Xeons of {DECIMAL} GHz"),
+    ],
+    "minutes of the gate": [
+        (README, rf"on the same machine in {NUMBER} minutes, \d+ of a processor"),
+        (GATE, rf"^\| {DATE} \| 4 \| {NUMBER} \|"),
+    ],
+    "minutes of a processor of the gate": [
+        (README, rf"on the same machine in \d+ minutes, {NUMBER} of a processor"),
+        (GATE, rf"^\| {DATE} \| 4 \| \d+ \| {NUMBER} \|"),
+    ],
+    "minutes of the first build": [
+        (README, rf"it took {NUMBER} minutes on four cores"),
+        (BUILD, rf"building the program, once: {NUMBER} minutes on four cores"),
+        (GATE, rf"it took \*\*{NUMBER} minutes, \d+ of a processor\*\*"),
+    ],
+    "minutes of a processor of the first build": [
+        (README, rf"\(Intel Cascade Lake\), {NUMBER} of a processor"),
+        (GATE, rf"it took \*\*\d+ minutes, {NUMBER} of a processor\*\*"),
+    ],
     "logic of the toolchain": [
         (README, r"`logic ([0-9a-f]{16})`"),
-        (PROVED, r"^    logic ([0-9a-f]{16})$"),
+        (PROVED, r"^ logic ([0-9a-f]{16})$"),
     ],
     "greatest qubit": [
         (FORMATS, rf"number of a qubit \| {NUMBER} \|"),
@@ -98,7 +120,7 @@ def section(title):
 class PagesTest(unittest.TestCase):
     def figure_in(self, name, expression):
         """The figure that stands in a page, in plain digits."""
-        found = re.findall(expression, page(name), re.MULTILINE)
+        found = re.findall(expression.replace(" ", r"\s+"), page(name), re.MULTILINE)
         self.assertEqual(len(found), 1, f"{name} has '{expression}' {len(found)} times")
         return re.sub("[,_]", "", found[0])
 
@@ -121,19 +143,28 @@ class Figures(PagesTest):
 
 
 class OfTheGate(PagesTest):
-    """The last row of the table in docs/GATE.md, and what is said of it elsewhere."""
+    """What docs/GATE.md counts of the tree, and the times of crates, by which .ci/progress guesses."""
 
-    def last_row(self):
-        rows = re.findall(r"^\| \d{4}-\d\d-\d\d \|.*$", page(GATE), re.MULTILINE)
-        return [cell.strip() for cell in rows[-1].strip("|").split("|")]
+    def count(self, *folders):
+        return str(sum(1 for folder in folders for _ in TOP.glob(f"crates/*/{folder}/*.edit")))
 
     def test_crates_and_wrong_bodies_are_those_of_the_tree(self):
-        tried, more = (sum(1 for folder in folders for _ in TOP.glob(f"crates/*/{folder}/*.edit"))
-                       for folders in (("must-fail", "wrong-bodies"), ("more-wrong-bodies",)))
-        self.assertEqual(self.last_row()[-2:], [str(len(crates())), str(tried)])
-        self.assertEqual(self.figure_in(GATE, rf"`.ci/wrong-bodies --all` tries {NUMBER} more wrong bodies"), str(more))
-        of_crates = sum(1 for _ in TOP.glob("crates/*/wrong-bodies/*.edit"))
-        self.assertEqual(self.figure_in(GATE, rf"of a processor for the {NUMBER} of the gate"), str(of_crates))
+        crates_then, tried = re.findall(rf"^\| {DATE} \|.*\| (\d+) \| (\d+) \|$", page(GATE), re.MULTILINE)[-1]
+        self.assertEqual(crates_then, str(len(crates())))
+        self.assertEqual(tried, self.count("must-fail", "wrong-bodies"))
+        more = self.figure_in(GATE, rf"`.ci/wrong-bodies --all` tries {NUMBER} more wrong bodies")
+        self.assertEqual(more, self.count("more-wrong-bodies"))
+        of_scripts = self.figure_in(GATE, rf"of a processor for the {NUMBER} of the gate")
+        self.assertEqual(of_scripts, self.count("wrong-bodies"))
+
+    def test_times_of_crates_are_those_of_the_gate(self):
+        """But for one that is told to be of another machine, 'some 680'."""
+        guessed_by = dict(re.findall(r"^(\w+) (\d+)$", page(".ci/build-times"), re.MULTILINE))
+        self.assertEqual(sorted(guessed_by), sorted(set(crates()) - {"test_support", "proved_tests"}))
+        told = dict(re.findall(r"(\w+) \| (\d+|some \d+) \|", page(GATE).partition("## What a crate's proof takes")[2]))
+        for crate, seconds in guessed_by.items():
+            with self.subTest(crate=crate):
+                self.assertTrue(told[crate] == seconds or told[crate].startswith("some "), told[crate])
 
 
 class OfTheTree(PagesTest):
@@ -180,12 +211,12 @@ class OfTheBenchmarks(PagesTest):
     """Times that other pages quote from the table of docs/BENCH.md: that of the row, rounded."""
 
     QUOTED = [
-        (README, r"distance 25 with 25 rounds is analysed in ([\d.]+) s", "surface 25 25 | analyze"),
+        (README, rf"distance 25 with 25 rounds took {DECIMAL} s", r"surface 25 25 \| analyze"),
     ]
 
     def test_times_are_those_of_the_benchmarks(self):
         for name, expression, row in self.QUOTED:
             with self.subTest(row=row):
                 quoted = self.figure_in(name, expression)
-                measured = float(self.figure_in(BENCH, rf"^\| {re.escape(row)} \| ([\d.]+) \|"))
+                measured = float(self.figure_in(BENCH, rf"^\| {row} \| {DECIMAL} \|"))
                 self.assertEqual(f"{measured:.{len(quoted.partition('.')[2])}f}", quoted)

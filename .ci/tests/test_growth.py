@@ -45,7 +45,7 @@ class Time(ProgramTest):
 
     def test_parts_of_a_text_that_is_not_held(self):
         """A turn has an error line of 600 bytes and moves 64 words on, so that none repeats the one before."""
-        self.check_linear(["analyze"], lambda turns: turning_words(turns, 64, 100, "    X_ERROR(0.1) 0\n"), 10_000)
+        self.check_linear(["analyze"], lambda turns: turning_words(turns, 64, 100, "    X_ERROR(0.1) 0\n"), 25_000)
 
     def test_a_long_line_of_a_model(self):
         """Of detectors that each stand once."""
