@@ -1,7 +1,8 @@
 """What stands on several pages agrees: figures, and lists of crates and of files, with one another and with the tree.
 
-A figure is a row of FIGURES, with each place where it stands: a page, and a regular expression that is found there once, whose first
-group is the figure. A blank of it stands for any, and for the end of a line too. Who changes a sentence changes its row here.
+A figure is a row of FIGURES, with each place where it stands: a page, and a regular expression that is found there once,
+whose first group is the figure. A blank of it stands for any, and for the end of a line too. Who changes a sentence changes
+its row here.
 """
 import re
 import unittest
@@ -200,11 +201,11 @@ class OfTheTree(PagesTest):
                             self.assertTrue((TOP / "crates" / crate / "src" / f"{file}.rt").is_file())
 
     def test_private_definitions_are_used_in_their_own_crate_alone(self):
-        for crate in crates():
-            for part in "src", "specs", "proofs":
-                for path in (TOP / "crates" / crate / part).rglob("*.??t*"):
-                    others = set(re.findall(r"Rattle\.(\w+)\.specs\.private", path.read_text())) - {crate}
-                    self.assertEqual(others, set(), path)
+        paths = [path for part in ("src", "specs", "proofs") for path in TOP.glob(f"crates/*/{part}/**/*.*t")]
+        self.assertGreater(len(paths), 1000)
+        for path in paths:
+            others = set(re.findall(r"Rattle\.(\w+)\.specs\.private", path.read_text()))
+            self.assertLessEqual(others, {path.relative_to(TOP).parts[1]}, path)
 
 
 class OfTheBenchmarks(PagesTest):

@@ -1,8 +1,9 @@
 """How what a text costs grows with it: the processor's time by ratios, and memory by limits that the system sets.
 
-No clause sees a program that does more than it need. So each test compares a text with one that is a part of it, or with another way
-to the same answer, and bounds the ratio of their times: between that of the program and that of one which forgets a limit or goes over
-something anew. Each time is the least of a few runs. A limit on memory holds for a text whose answer, or parts, are many times as long.
+No clause sees a program that does more than it need. So each test compares a text with one that is a part of it, or with
+another way to the same answer. The bound on the ratio of their times stands between that of the program and that of one which
+forgets a limit, or goes over something anew. Each time is the least of a few runs. A limit on memory is less than what a
+program would take that keeps something which this one doesn't.
 """
 import os
 import resource

@@ -21,6 +21,8 @@ follow from the formulas beside them. The sizes, and a test that passes each:
                 100 qubits                      LargeRuns, 1000 qubits in one state
     faults      2,000 faults                    LargeFaultLists
                 4,096 letters of a fault        the same, 100,000 letters and 300 turns
+
+`test_limits_answered` has the limits of docs/FORMATS.md and greater powers of two.
 """
 from program import ProgramTest, bits, listed, named
 

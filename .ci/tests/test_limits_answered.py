@@ -22,7 +22,7 @@ DETECTORS = "".join(f"detector D{k}\n" for k in range(MILLION))
 
 class Answered(ProgramTest):
     def check_each(self, circuit, records, detections="", model="", faults="coins 1\n"):
-        """What each subcommand writes of a circuit of which no two runs differ: these records, detections, model and list of faults."""
+        """What each subcommand writes of a circuit whose runs are all alike."""
         outputs = (f"{records}\n{detections}\n", faults, f"{records}\n", f"{detections}\n", model)
         for words, output in zip(EACH, outputs, strict=True):
             with self.subTest(words=words):
@@ -81,9 +81,10 @@ class CircuitLimits(Answered):
 
     def test_8000000_resets(self):
         circuit = "REPEAT 8000000 {\nR 0\n}\n"
-        for words, output in (["run"], "\n\n"), (["faults"], "coins 8000000\n"), (["detect", "--shots", "1"], "\n"), (["analyze"], ""):
-            with self.subTest(words=words):
-                self.check(words, circuit, output)
+        self.check(["run"], circuit, "\n\n")
+        self.check(["faults"], circuit, "coins 8000000\n")
+        self.check(["detect", "--shots", "1"], circuit, "\n")
+        self.check(["analyze"], circuit, "")
 
     def test_8000000_random_outcomes(self):
         """Of two coin lists the second has its one 1 at the first measurement of qubit 0."""
@@ -109,9 +110,9 @@ class CircuitLimits(Answered):
     def test_64000000_steps(self):
         """Each turn counts 1, its line 1 and each target 1: gates on four qubits two by two, an even number of times."""
         circuit = "REPEAT 10666666 {\nCX 0 1 2 3\n}\nTICK\nTICK\nTICK\nTICK\n"
-        for words, output in (["run"], "\n\n"), (["detect", "--shots", "1"], "\n"), (["analyze"], ""):
-            with self.subTest(words=words):
-                self.check(words, circuit, output)
+        self.check(["run"], circuit, "\n\n")
+        self.check(["detect", "--shots", "1"], circuit, "\n")
+        self.check(["analyze"], circuit, "")
 
     def test_32_blocks_inside_one_another(self):
         circuit = "REPEAT 1 {\n" * 9 + "REPEAT 2 {\n" * 15 + "REPEAT 1 {\n" * 8 + "X 0\n" + "}\n" * 32 + "M 0\n"
@@ -242,7 +243,8 @@ class ModelLimits(Answered):
     def test_a_million_detectors_and_1024_observables(self):
         output = "0" * (MILLION - 1) + "1" + "0" * 1023 + "1"
         self.check_model("0", "error(0.1) D999999 L1023\n", output)
-        self.check_model("999999", "repeat 1000000 {\nerror(0.1) D0\nshift_detectors 1\n}\nlogical_observable L1023\n", output[:-1] + "0")
+        block = "repeat 1000000 {\nerror(0.1) D0\nshift_detectors 1\n}\n"
+        self.check_model("999999", f"{block}logical_observable L1023\n", output[:-1] + "0")
 
     def test_4000000_lines(self):
         """A turn counts 1 and its line 1."""

@@ -108,7 +108,7 @@ class WantOfMemory(ProgramTest):
         self.assertGreater(refused, 10)
 
     def test_an_analysis_needs_no_memory_for_its_output(self):
-        """98 million bytes are written within 32 MiB of data: 20,000 faults, each on a line of its own, flip 1,000 detectors each."""
+        """98 million bytes are written within 32 MiB of data: 20,000 faults, a line each, flip 1,000 detectors each."""
         circuit = "X_ERROR(0.1) 0\n" * 20_000 + "REPEAT 1000 {\n    M 0\n    DETECTOR rec[-1]\n}\n"
         line = "error(0.1)" + "".join(f" D{k}" for k in range(1000)) + "\n"
         written, status = run_within(32 << 20, ["analyze"], circuit)
