@@ -1,6 +1,7 @@
 pub mod ColumnLemmas
 pub mod ExchangeLemmas
 pub mod GateLemmas
+pub mod HalfLemmas
 pub mod KeptLemmas
 pub mod LengthLemmas
 pub mod LoneTerms

@@ -1,5 +1,5 @@
 -- A word beside the product of letters at qubits.
-use Rattle.std.proofs.Common.{◌≡◌, ℕ, ◌<◌, List, [], ◌∷◌, length, get_or, refl, ap, sym, ◌∙◌}
+use Rattle.std.proofs.Common.{◌≡◌, ℕ, suc, ◌<◌, Bool, false, List, [], ◌∷◌, ◌++◌, length, get_or, refl, ap, sym, ◌∙◌, arith}
 use Rattle.std.specs.Prelude.{All}
 use Rattle.std.proofs.lemmas.List.Elements.{All-get_or}
 use Rattle.pauli_word.specs.declared.letter.Letter.{Letter}
@@ -7,7 +7,8 @@ use Rattle.pauli_word.specs.declared.letter.Letter.TheVariants.{I}
 use Rattle.pauli_word.specs.Letters.{letters_clash}
 use Rattle.pauli_word.specs.Parity.{exclusive_or}
 use Rattle.pauli_word.specs.Words.{anticommute, letter_at, lone_letter, no_letters}
-use Rattle.pauli_word.proofs.WordLaws.{letters_product_comm, anticommute_comm, anticommute-product}
+use Rattle.pauli_word.proofs.Parities.{exclusive_or_assoc}
+use Rattle.pauli_word.proofs.WordLaws.{letters_product_comm, anticommute_comm, anticommute_of_none, anticommute-product}
 use Rattle.step_model.specs.declared.step.Term.{Term}
 use Rattle.step_model.specs.Listing.{word_of_terms}
 use Rattle.pauli_word.proofs.LoneLetters.{length-lone_letter, anticommute-lone_letter, letters_product_of_no_letters}
@@ -38,3 +39,21 @@ pub one_term : (n : ℕ) (w : List Letter) (term : Term) → length w ≡ n → 
 one_term n w term h k =
     ap (anticommute w) (word_of_one_term n term)
     ∙ (anticommute_comm w (lone_letter n term.qubit term.letter) ∙ anticommute-lone_letter n w term.qubit term.letter h k)
+
+-- two lists of terms, one behind the other
+pub anticommute-terms : (w : List Letter) (front back : List Term) → All (λ term. term.qubit < length w) front → anticommute w (word_of_terms (length w) (front ++ back)) ≡ exclusive_or (anticommute w (word_of_terms (length w) front)) (anticommute w (word_of_terms (length w) back))
+anticommute-terms w [] back h = ap (λ odd. exclusive_or odd (anticommute w (word_of_terms (length w) back))) (sym none)
+  where
+    none : anticommute w (word_of_terms (length w) []) ≡ false
+    none = anticommute_comm w (no_letters (length w)) ∙ anticommute_of_none (length w) w
+anticommute-terms w (term ∷ front) back h =
+    anticommute-term w term (front ++ back) first
+    ∙ (ap (exclusive_or odd) (anticommute-terms w front back (λ i d lt. h (suc i) d (omega (arith, lt))))
+    ∙ (sym (exclusive_or_assoc odd (anticommute w (word_of_terms (length w) front)) (anticommute w (word_of_terms (length w) back)))
+    ∙ ap (λ all. exclusive_or all (anticommute w (word_of_terms (length w) back))) (sym (anticommute-term w term front first))))
+  where
+    odd : Bool
+    odd = letters_clash term.letter (letter_at w term.qubit)
+
+    first : term.qubit < length w
+    first = h 0 term (omega arith)

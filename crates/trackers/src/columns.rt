@@ -1,11 +1,9 @@
 //! All columns: kept as lists, restored from them, and asked where their words anticommute with a product.
 ghost use Rattle.std.specs.Prelude.{◌≡◌, ◌<◌, ◌≤◌, ◌*◌, ◌^◌, ◌∷◌, [], length, reverse, take, All, IfOk, IfSome, OnOk, map, slice_index_or};
-ghost use Rattle.std.specs.List.{range_with_len};
-ghost use Rattle.pauli_word.specs.Words.{anticommute};
-ghost use Rattle.step_model.specs.Listing.{word_of_terms};
 ghost use Rattle.trackers.specs.Tracked.{anticommuting};
-ghost use Rattle.trackers.specs.private.Transposed.{lists_of_each, tracked_of, word_at, AreRestored};
+ghost use Rattle.trackers.specs.private.Transposed.{lists_of_each, tracked_of, AreRestored};
 
+use crate::clashing::clashing;
 use crate::column::{Column, is_y};
 use crate::descending::{FEW, list_ascending};
 use crate::target_set::TargetSet;
@@ -110,31 +108,4 @@ pub(crate) fn sum_both<S: TargetSet>(
         (Some(one), Some(other)) => one.sum_few(other, sum),
         _ => None,
     }
-}
-
-// The targets whose words anticommute with the product of these letters at qubits.
-#[inline(never)]
-fn clashing<S: TargetSet>(
-    columns: &[Column<S>],
-    terms: &[Term],
-    set: &mut S,
-    spare: &mut S,
-) -> Result<(), AllocError>
-    requires terms { All (λ term. term.qubit < length columns.now) terms.now }
-    requires long { All (λ column. length column ≡ length (S.bits set.old)) columns.now }
-    requires spare { length (S.bits spare.old) ≡ length (S.bits set.old) }
-    ensures ok { OnOk result
-        (S.bits set.new
-        ≡ map
-        (λ t. anticommute (word_at columns.now t)
-        (word_of_terms (length columns.now) terms.now))
-        (range_with_len 0 (length (S.bits set.old)))) }
-    ensures len { length (S.bits set.new) ≡ length (S.bits set.old) }
-    ensures spare { length (S.bits spare.new) ≡ length (S.bits spare.old) }
-{
-    set.clear();
-    for term in terms {
-        columns[term.qubit as usize].toggle_clashing(term.letter, set, spare)?;
-    }
-    Ok(())
 }

@@ -3,6 +3,7 @@
 //! (Sensitivities taken back over a circuit: Gidney, Quantum 5, 497 (2021).)
 #![tactic(auto)]
 
+mod clashing;
 mod column;
 mod columns;
 mod descending;

@@ -3,7 +3,7 @@ use Rattle.pauli_word.specs.Parity.{exclusive_or}
 use Rattle.pauli_word.specs.Words.{anticommute}
 use Rattle.step_model.specs.Listing.{word_of_terms}
 use Rattle.trackers.specs.private.Transposed.{word_at}
-use Rattle.trackers.proofs.columns.clashing.Given as goal
+use Rattle.trackers.proofs.clashing.clashing_in_turn.Given as goal
 
 -- for each target, the terms so far and those that are left make all
 abbrev pub invariant-loop-term : goal.invariant-loop-term

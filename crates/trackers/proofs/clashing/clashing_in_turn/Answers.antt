@@ -10,7 +10,7 @@ use Rattle.trackers.specs.private.Transposed.{word_at}
 use Rattle.trackers.proofs.LengthLemmas.{column_at}
 use Rattle.trackers.proofs.TransposedLemmas.{get_or-xor_rows, clash_more, clash_none, clash_rows}
 use Rattle.trackers.proofs.WordLemmas.{no_term, term_below}
-use Rattle.trackers.proofs.columns.clashing.Goals as goal
+use Rattle.trackers.proofs.clashing.clashing_in_turn.Goals as goal
 
 pub toggle_clashing-requires-clause-set : goal.toggle_clashing-requires-clause-set
 toggle_clashing-requires-clause-set g c =
