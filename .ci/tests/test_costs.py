@@ -56,6 +56,14 @@ class Costs(ProgramTest):
         output = "".join(f"{k} 0.1 {word}\n" for k in range(300)) + "coins 0\n"
         self.check_within(2, 20, ["faults"], circuit, output)
 
+    def test_turns_of_a_fault_that_4096_detectors_see(self):
+        """The detectors that its letters flip are added up in halves: 300 faults, each of which took 30 ms letter by letter."""
+        letters = "REPEAT 300 {\n    E(0.1)" + named("X", range(4096)) + "\n}\n"
+        seen = "".join(f"M {k}\nDETECTOR rec[-1]\n" for k in range(4096))
+        line = "error(0.1)" + named("D", range(4096)) + "\n"
+        output = line * 300 + "".join(f"detector D{k}\n" for k in range(4096))
+        self.check_within(2, 40, ["analyze"], letters + seen, output)
+
     def test_records_of_an_observable_that_a_block_repeats(self):
         """20,000,000 records, four bytes each."""
         circuit = "M 0\nREPEAT 20000 {\n    OBSERVABLE_INCLUDE(5)" + " rec[-1]" * 1000 + "\n}\n"
