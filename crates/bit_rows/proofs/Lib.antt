@@ -1,5 +1,6 @@
 pub mod BitLaws
 pub mod Places
+pub mod NextPlaces
 pub mod Sums
 pub mod RowTotals
 pub mod Carries

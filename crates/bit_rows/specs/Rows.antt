@@ -3,7 +3,7 @@
 -- (1, 1) and Z at (0, 1). Each letter times itself is I; X Y = i Z, Y Z = i X, Z X = i Y, and in the other order the
 -- factor is -i. The factor of two words is the product over the places. (Aaronson and Gottesman, Phys. Rev. A 70,
 -- 052328 (2004), section III, where the power of i at a place is called g.)
-use Rattle.std.specs.Prelude.{Bool, true, false, not, ◌&&◌, ℕ, ◌+◌, ◌%◌, List, [], ◌∷◌}
+use Rattle.std.specs.Prelude.{◌≡◌, Bool, true, false, not, ◌&&◌, ℕ, ◌+◌, ◌%◌, List, [], ◌∷◌, slice_index_or}
 use Rattle.std.specs.Prelude.{Option, Some, None}
 
 -- whether exactly one of two is true
@@ -49,3 +49,7 @@ first_one_of (false ∷ p) = one_later (first_one_of p)
     one_later : Option ℕ → Option ℕ
     one_later None = None
     one_later (Some i) = Some (i + 1)
+
+-- neither of two rows has a one at a place
+abbrev pub AreZeroAt : ℕ → List Bool → List Bool → Type 0
+AreZeroAt k p q = (slice_index_or p k false ≡ false) × (slice_index_or q k false ≡ false)

@@ -1,7 +1,7 @@
-ghost use Rattle.std.specs.Prelude.{◌≡◌, ◌↔◌, ◌<◌, ◌≤◌, List, Bool, false, not, length, replicate, slice_index_or, slice_set, IfOk, IsTrue};
-ghost use Rattle.bit_rows.specs.Rows.{xor_rows, and_parity_of, phase_of, first_one_of};
+ghost use Rattle.std.specs.Prelude.{◌≡◌, ◌↔◌, ◌<◌, ◌≤◌, ◌⊎◌, ℕ, List, Bool, true, false, not, length, replicate, slice_index_or, slice_set, IfOk, IfSome, IfNone, IsTrue};
+ghost use Rattle.bit_rows.specs.Rows.{AreZeroAt, xor_rows, and_parity_of, phase_of, first_one_of};
 
-use crate::bits::{bit_at_place, first_place, flip_bit, put_bit};
+use crate::bits::{bit_at_place, first_place, first_place_from, flip_bit, put_bit};
 use crate::marks::{either, is_unmarked, mark, marks_of_sum};
 use crate::multiply::multiply_words;
 use crate::parity::has_odd_common_ones;
@@ -201,6 +201,21 @@ impl<A: Allocator + Copy> BitRow<A> {
         ensures { result ≡ first_one_of self.now }
     {
         first_place(self.words.as_slice())
+    }
+
+    /// The first place from `start` on at which one of two rows has a one.
+    pub fn first_one_from(first: &BitRow<A>, second: &BitRow<A>, start: usize) -> Option<usize>
+        requires { length first.now ≡ length second.now }
+        ensures none { IfNone result ((k : ℕ) → start ≤ k → AreZeroAt k first.now second.now) }
+        ensures within { IfSome result (λ i. (start ≤ i) × (i < length first.now)) }
+        ensures is_set { IfSome result (λ i. (slice_index_or first.now i false ≡ true)
+            ⊎ (slice_index_or second.now i false ≡ true)) }
+        ensures before { IfSome result (λ i. (k : ℕ)
+            → start ≤ k
+            → k < i
+            → AreZeroAt k first.now second.now) }
+    {
+        first_place_from(first.words.as_slice(), second.words.as_slice(), start)
     }
 
     /// The power of i, 0 to 3, of a product of Pauli words: the one with x bits `xa` and z bits `za`, times the one with

@@ -4,6 +4,7 @@ pub mod LetterLaws
 pub mod LetterTests
 pub mod LoneLetters
 pub mod LowestLetters
+pub mod NextLetters
 pub mod Parities
 pub mod PowerLaws
 pub mod SignedLaws

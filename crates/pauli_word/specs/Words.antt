@@ -2,7 +2,7 @@
 -- qubit; its power of i is the product of the qubits' powers, times -1 for each minus sign. Two words commute exactly
 -- when an even number of qubits clash. For two commuting words the power is 1 or -1, so their product is a signed word.
 -- (Aaronson and Gottesman, Phys. Rev. A 70, 052328 (2004), section II.)
-use Rattle.std.specs.Prelude.{Bool, true, false, if◌then◌else◌, ℕ, suc, List, [], ◌∷◌, Option, None, Some, option_map, replicate, slice_set, slice_index_or}
+use Rattle.std.specs.Prelude.{◌≡◌, ◌≢◌, ◌<◌, ◌≤◌, Bool, true, false, if◌then◌else◌, ℕ, suc, List, [], ◌∷◌, Option, None, Some, option_map, length, replicate, slice_set, slice_index_or}
 use Rattle.pauli_word.specs.Parity.{exclusive_or}
 use Rattle.pauli_word.specs.declared.letter.Letter.{Letter}
 use Rattle.pauli_word.specs.declared.letter.Letter.TheVariants.{I, X, Y}
@@ -66,3 +66,12 @@ has_X_or_Y letter = false
 abbrev pub lowest_X_or_Y : List Letter → Option ℕ
 lowest_X_or_Y [] = None
 lowest_X_or_Y (a ∷ w) = if has_X_or_Y a then Some 0 else option_map suc (lowest_X_or_Y w)
+
+-- a word has I at each qubit from one on, before another
+abbrev pub HasNoneBetween : List Letter → ℕ → ℕ → Type 0
+HasNoneBetween w start end = (k : ℕ) → start ≤ k → k < end → letter_at w k ≡ I
+
+-- the lowest qubit from one on at which a word has a letter other than I, if there is one
+abbrev pub IsNextLetter : List Letter → ℕ → Option ℕ → Type 0
+IsNextLetter w start None = HasNoneBetween w start (length w)
+IsNextLetter w start (Some q) = (start ≤ q) × (q < length w) × (letter_at w q ≢ I) × HasNoneBetween w start q

@@ -1,7 +1,7 @@
 ghost use Rattle.std.specs.Prelude.{◌≡◌, ◌↔◌, ◌<◌, ◌≤◌, length, slice_set, not, IfOk, IsTrue};
 ghost use Rattle.pauli_word.specs.declared.letter.Letter.TheVariants.{Z};
 ghost use Rattle.pauli_word.specs.Letters.{is_minus, letters_clash};
-ghost use Rattle.pauli_word.specs.Words.{letter_at, anticommute, letters_power, product, lowest_X_or_Y};
+ghost use Rattle.pauli_word.specs.Words.{letter_at, anticommute, letters_power, product, lowest_X_or_Y, IsNextLetter};
 ghost use Rattle.pauli_word.specs.Groups.{identity_word};
 
 use crate::letter::Letter;
@@ -120,6 +120,13 @@ impl<A: Allocator + Copy> Word<A> {
         ensures { result ≡ lowest_X_or_Y self.now.letters }
     {
         self.x.first_one()
+    }
+
+    /// The lowest qubit from `start` on with a letter other than I.
+    pub fn next_letter(&self, start: usize) -> Option<usize>
+        ensures { IsNextLetter self.now.letters start result }
+    {
+        BitRow::first_one_from(&self.x, &self.z, start)
     }
 
     /// Whether it has 64 letters or less.
