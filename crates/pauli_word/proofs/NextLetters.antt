@@ -1,8 +1,7 @@
 -- The next letter of a word that is kept as two rows of bits: where one of them has a one.
-use Rattle.std.proofs.Common.{◌≡◌, ◌≢◌, ◌<◌, ◌≤◌, ◌⊎◌, ℕ, Bool, true, false, List, Option, None, Some, length, get_or, refl, sym, ap, ap₂, ◌∙◌, arith, ⊎_elim}
+use Rattle.std.proofs.Common.{◌≡◌, ◌≢◌, ◌<◌, ◌≤◌, ◌⊎◌, ℕ, Bool, true, false, List, Option, None, Some, length, get_or, sym, ap, ap₂, ◌∙◌, arith, ⊎_elim}
 use Rattle.std.specs.Option.{IfNone, IfSome}
 use Rattle.bit_rows.specs.Rows.{AreZeroAt}
-use Rattle.pauli_word.specs.declared.letter.Letter.{Letter}
 use Rattle.pauli_word.specs.declared.letter.Letter.TheVariants.{I}
 use Rattle.pauli_word.specs.Bits.{letter_of, letters_of}
 use Rattle.pauli_word.specs.Words.{Signed, letter_at, IsNextLetter}

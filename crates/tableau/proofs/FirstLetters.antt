@@ -1,22 +1,18 @@
 -- A word's first letters with I after them, as loops over qubits build it letter by letter.
-use Rattle.std.proofs.Common.{◌≡◌, ◌<◌, ◌≤◌, ◌+◌, ℕ, zero, suc, false, List, [], ◌∷◌, length, set, get_or, refl, ap, ap₂, ◌∙◌, arith}
+use Rattle.std.proofs.Common.{◌≡◌, ◌<◌, ◌≤◌, ◌+◌, ℕ, zero, suc, false, List, [], ◌∷◌, length, set, get_or, refl, ap, ap₂, sym, ◌∙◌, arith, ⊎_elim}
+use Rattle.std.proofs.lemmas.Bool.{cases_lt}
 use Rattle.std.proofs.lemmas.List.{length-replicate}
 use Rattle.gate_table.proofs.WordImageLaws.{letter_at-none}
 use Rattle.pauli_word.specs.declared.letter.Letter.{Letter}
 use Rattle.pauli_word.specs.declared.letter.Letter.TheVariants.{I}
 use Rattle.pauli_word.specs.Letters.{is_minus, letter_product, letter_power, letters_clash}
-use Rattle.pauli_word.specs.Words.{signed, product, no_letters, lone_letter, letter_at}
+use Rattle.pauli_word.specs.Words.{signed, product, no_letters, lone_letter, letter_at, HasNoneBetween}
 use Rattle.pauli_word.proofs.LetterLaws.{letter_product-I, letter_power-I, letters_clash_comm, letters_clash_of_I}
 use Rattle.pauli_word.proofs.LoneLetters.{anticommute-lone_letter, letters_product-lone_letter, letters_power-lone_letter}
 use Rattle.pauli_word.proofs.SignedLaws.{product_comm}
 use Rattle.pauli_word.proofs.WordLaws.{anticommute_comm}
 use Rattle.tableau.specs.private.Encoding.{Pair}
-use Rattle.tableau.specs.private.EncodingSteps.{lone, pair_after, after_word}
-
-abbrev pub first_letters : ℕ → List Letter → List Letter
-first_letters zero p = no_letters (length p)
-first_letters (suc i) [] = []
-first_letters (suc i) (a ∷ p) = a ∷ first_letters i p
+use Rattle.tableau.specs.private.EncodingSteps.{lone, pair_after, first_letters, after_word}
 
 pub length-first : (i : ℕ) (p : List Letter) → length (first_letters i p) ≡ length p
 length-first zero p = length-replicate (length p) I
@@ -43,6 +39,25 @@ pub first-one_more : (i : ℕ) (p : List Letter) → i < length p → set (first
 first-one_more i p h = first-more i p h ∙ ap (λ j. first_letters j p) next where
   next : suc i ≡ i + 1
   next = omega arith
+
+-- letters I after the first ones are among them, as well
+pub first-skip : (i j : ℕ) (p : List Letter) → i ≤ j → HasNoneBetween p i j → first_letters i p ≡ first_letters j p
+first-skip zero zero p h none = refl
+first-skip zero (suc j) [] h none = refl
+first-skip zero (suc j) (a ∷ p) h none =
+    ap₂ (λ b q. b ∷ q) (sym (none 0 (omega arith) (omega arith))) (first-skip zero j p (omega arith) (λ k from below. none (suc k) (omega arith) (omega (arith, below))))
+first-skip (suc i) zero p h none = absurd (omega arith)
+first-skip (suc i) (suc j) [] h none = refl
+first-skip (suc i) (suc j) (a ∷ p) h none =
+    ap (λ q. a ∷ q) (first-skip i j p (omega arith) (λ k from below. none (suc k) (omega (arith, from)) (omega (arith, below))))
+
+-- where no letter is left, the first ones are the word
+pub first-end : (i : ℕ) (p : List Letter) → HasNoneBetween p i (length p) → first_letters i p ≡ p
+first-end i p none =
+    ⊎_elim
+    (λ (h : i < length p). first-skip i (length p) p (omega arith) none ∙ first-all (length p) p (omega arith))
+    (λ (h : length p ≤ i). first-all i p h)
+    (cases_lt i (length p))
 
 -- a letter put where a word has I multiplies by it
 pub product-lone : (n : ℕ) (w : List Letter) (q : ℕ) (a : Letter) → length w ≡ n → q < n → letter_at w q ≡ I → product (signed w false) (lone n q a) ≡ signed (set w q a) false

@@ -1,5 +1,5 @@
 -- The words that loops and gates make of pairs, step by step.
-use Rattle.std.proofs.Common.{◌≡◌, ◌≢◌, ◌<◌, ◌&&◌, ◌+◌, ℕ, zero, suc, true, false, List, [], ◌∷◌, length, set, get_or, refl, ap, ap₂, sym, subst, ◌∙◌, length-set, get_or-set_same, get_or-set_other, set-set}
+use Rattle.std.proofs.Common.{◌≡◌, ◌≢◌, ◌<◌, ◌&&◌, ◌+◌, ℕ, zero, suc, true, false, List, [], ◌∷◌, length, set, get_or, refl, ap, ap₂, sym, subst, ◌∙◌, length-set, get_or-set_same, get_or-set_other, set-set, arith}
 use Rattle.std.proofs.lemmas.List.{length-replicate, get_or_default}
 use Rattle.gate_table.specs.declared.gate.Gate.{Gate}
 use Rattle.gate_table.specs.declared.gate.Gate.TheVariants.{Swap}
@@ -10,7 +10,7 @@ use Rattle.pauli_word.specs.declared.letter.Letter.{Letter}
 use Rattle.pauli_word.specs.declared.letter.Letter.TheVariants.{I, X, Y, Z}
 use Rattle.pauli_word.specs.Letters.{letters_clash}
 use Rattle.pauli_word.specs.Parity.{exclusive_or}
-use Rattle.pauli_word.specs.Words.{Signed, signed, with_sign_changed, anticommute, product, no_letters, lone_letter, letter_at}
+use Rattle.pauli_word.specs.Words.{Signed, signed, with_sign_changed, anticommute, product, no_letters, lone_letter, letter_at, HasNoneBetween}
 use Rattle.pauli_word.specs.Groups.{identity_word}
 use Rattle.pauli_word.proofs.LetterLaws.{letters_clash_comm, letters_clash_of_I}
 use Rattle.pauli_word.proofs.LoneLetters.{length-lone_letter, anticommute-lone_letter}
@@ -18,8 +18,8 @@ use Rattle.pauli_word.proofs.Parities.{exclusive_or-false}
 use Rattle.pauli_word.proofs.SignedLaws.{product-sign_changed_right, product_of_identity}
 use Rattle.pauli_word.proofs.WordLaws.{anticommute_comm}
 use Rattle.tableau.specs.private.Encoding.{Pair, word_of, encoded, pair_at, IsTableau, HasLength}
-use Rattle.tableau.specs.private.EncodingSteps.{lone, code_of, preimage_word, preimage_product, pair_under, after_two}
-use Rattle.tableau.proofs.FirstLetters.{first_letters, length-first, first-next, first-one_more, product-lone}
+use Rattle.tableau.specs.private.EncodingSteps.{lone, code_of, first_letters, preimage_word, preimage_product, pair_under, after_two}
+use Rattle.tableau.proofs.FirstLetters.{length-first, first-skip, first-next, first-one_more, product-lone}
 use Rattle.tableau.proofs.RowMaps.{products_kept, kept_sign, row_encoded, word_of_size}
 use Rattle.tableau.proofs.Turns.{regrouped, times_identity}
 
@@ -102,6 +102,21 @@ module _ (rows : List Pair) (is : IsTableau (length rows) rows) where
         ∙ (ap (λ c. product c (word_of n (pair_at n rows q) a)) code_is
         ∙ (code_added (first_letters q w) q first_size h (first-next q w) a
         ∙ ap (code_of n rows) (ap (set (first_letters q w) q) a_is ∙ first-one_more q w (subst (λ m. q < m) (sym size) h)))))
+
+  -- before any letter the code is the identity
+  pub none_encoded : (w : List Letter) → length w ≡ n → identity_word n ≡ code_of n rows (first_letters 0 w)
+  none_encoded w size = sym (is.clifford.keeps.identity false) ∙ ap (λ m. code_of n rows (no_letters m)) (sym size)
+
+  -- the first letter's code is copied
+  pub first_encoded : (w : List Letter) (q : ℕ) → length w ≡ n → q < n → HasNoneBetween w 0 q → (r : Pair) → r ≡ get_or rows q r → (m : ℕ) → m ≡ n
+      → (new : Signed) (a : Letter) → a ≡ letter_at w q → new ≡ with_sign_changed false (word_of m r a) → new ≡ code_of n rows (first_letters (q + 1) w)
+  first_encoded w q size h none r r_is m m_is new a a_is e =
+      let s = pair_size q r h r_is in
+      encode_more w q size h (identity_word n) (none_encoded w size ∙ ap (code_of n rows) (first-skip 0 q w (omega arith) none)) r r_is new a a_is
+      (e
+      ∙ (ap (λ k. word_of k r a) m_is
+      ∙ (sym (product_of_identity n (word_of n r a) (word_of_size n r a s.x s.z))
+      ∙ ap (λ k. product (identity_word n) (word_of k r a)) (sym (length-replicate n I)))))
 
   -- gates
   module _ (g : Gate) (q : ℕ) (h : q < n) where

@@ -2,7 +2,7 @@
 //! decided.
 ghost use Rattle.std.specs.Prelude.{◌≡◌, ◌<◌, ℕ, length, IfSome};
 ghost use Rattle.tableau.specs.private.Encoding.{HasLength, IsTableau, word_of};
-ghost use Rattle.tableau.specs.private.EncodingSteps.{lone, code_of, IsDiagonal};
+ghost use Rattle.tableau.specs.private.EncodingSteps.{lone, code_of, first_letters, IsDiagonal};
 
 use crate::pairs::{Pair, multiply, set_word};
 use pauli_word::{Letter, Word};
@@ -21,9 +21,36 @@ pub(crate) fn encode<A: Allocator + Copy>(
     ensures of_word { code.new.0
         ≡ code_of (length rows.now.items) rows.now.items word.now.letters }
 {
-    code.0.clear();
-    for qubit in 0..rows.len() {
+    let mut start = encode_first(rows, word, code);
+    while let Some(qubit) = word.next_letter(start) {
         multiply(&mut code.0, &rows[qubit], word.letter(qubit));
+        start = qubit + 1;
+    }
+}
+
+// Makes `code.0` the code of a word's first letter alone, and answers the qubit behind it. It is copied, which takes less than a
+// product with the identity.
+fn encode_first<A: Allocator + Copy>(
+    rows: &Vec<Pair<A>, A>,
+    word: &Word<A>,
+    code: &mut Pair<A>,
+) -> usize
+    requires tableau { IsTableau (length rows.now.items) rows.now.items }
+    requires word { length word.now.letters ≡ length rows.now.items }
+    requires code { HasLength (length rows.now.items) code.old }
+    ensures first { code.new.0
+        ≡ code_of (length rows.now.items) rows.now.items (first_letters result word.now.letters) }
+    ensures second { code.new.1 ≡ code.old.1 }
+{
+    match word.next_letter(0) {
+        None => {
+            code.0.clear();
+            0
+        }
+        Some(qubit) => {
+            set_word(&mut code.0, &rows[qubit], word.letter(qubit), false);
+            qubit + 1
+        }
     }
 }
 

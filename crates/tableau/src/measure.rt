@@ -1,10 +1,10 @@
 //! The collapse of a word, faster than in `collapse`, for who doesn't ask which word became a destabilizer. Where the outcome
 //! is random, half of the rows are multiplied by one word, and of the others one bit is read.
-ghost use Rattle.std.specs.Prelude.{◌≡◌, ◌≢◌, ◌<◌, ℕ, length, All, IfSome};
-ghost use Rattle.pauli_word.specs.declared.letter.Letter.TheVariants.{I, Z};
+ghost use Rattle.std.specs.Prelude.{◌≡◌, ◌+◌, ◌^◌, ◌<◌, ℕ, length, All};
+ghost use Rattle.pauli_word.specs.declared.letter.Letter.TheVariants.{Z};
 ghost use Rattle.pauli_word.specs.Letters.{letters_clash};
 ghost use Rattle.pauli_word.specs.Parity.{exclusive_or};
-ghost use Rattle.pauli_word.specs.Words.{anticommute, letter_at, product, with_sign_changed};
+ghost use Rattle.pauli_word.specs.Words.{anticommute, letter_at, product, with_sign_changed, IsNextLetter};
 ghost use Rattle.tableau.specs.private.CliffordMaps.{turned};
 ghost use Rattle.tableau.specs.private.Encoding.{HasLength, IsTableau, pair_at};
 ghost use Rattle.tableau.specs.private.EncodingSteps.{lone, mapped, code_of, after_measurement, outcome_of, TurnsAt};
@@ -13,18 +13,15 @@ use crate::pairs::{Pair, change_sign};
 use pauli_word::{Letter, Word};
 use std::alloc::Allocator;
 
-/// Collapses the word whose code is `code.0`, and answers the outcome. Where `only` names a qubit, the word has no letter at
-/// any other.
+/// Collapses the word whose code is `code.0`, and answers the outcome.
 pub(crate) fn measure_code<A: Allocator + Copy>(
     rows: &mut Vec<Pair<A>, A>,
     word: &Word<A>,
-    only: Option<usize>,
     code: &mut Pair<A>,
     coin: bool,
 ) -> bool
     requires tableau { IsTableau (length rows.old.items) rows.old.items }
     requires word { length word.now.letters ≡ length rows.old.items }
-    requires only { IfSome only (λ k. (i : ℕ) → i ≢ k → letter_at word.now.letters i ≡ I) }
     requires code { HasLength (length rows.old.items) code.old }
     requires of_word { code.old.0
         ≡ code_of (length rows.old.items) rows.old.items word.now.letters }
@@ -37,7 +34,7 @@ pub(crate) fn measure_code<A: Allocator + Copy>(
         None => code.0.sign(),
         Some(qubit) => {
             set_turn(code, qubit, coin);
-            turn_rows(rows, word, only, &code.1, qubit);
+            turn_rows(rows, word, &code.1, qubit);
             coin
         }
     }
@@ -61,12 +58,10 @@ pub(crate) fn set_turn<A: Allocator + Copy>(code: &mut Pair<A>, qubit: usize, co
 fn turn_rows<A: Allocator + Copy>(
     rows: &mut Vec<Pair<A>, A>,
     word: &Word<A>,
-    only: Option<usize>,
     turn: &Word<A>,
     qubit: usize,
 )
     requires word { length word.now.letters ≡ length rows.old.items }
-    requires only { IfSome only (λ k. (i : ℕ) → i ≢ k → letter_at word.now.letters i ≡ I) }
     requires inside { qubit < length turn.now.letters }
     requires sizes { All (HasLength (length turn.now.letters)) rows.old.items }
     requires clashes { (i : ℕ)
@@ -75,24 +70,33 @@ fn turn_rows<A: Allocator + Copy>(
         (pair_at (length turn.now.letters) rows.old.items i) }
     ensures { rows.new.items ≡ mapped (turned turn.now) rows.old.items }
 {
+    let mut next = word.next_letter(0);
     for row in 0..rows.len() {
-        let measured = measured_at(word, only, row);
+        let measured = take_letter(word, &mut next, row);
         turn_pair(&mut rows[row], turn, qubit, measured);
     }
 }
 
-// The letter of the word at a qubit: I where `only` names another qubit.
+// The letter of the word at a qubit. `next` is the next qubit with a letter, from this one on and then from the one behind it.
 #[inline(always)]
-fn measured_at<A: Allocator + Copy>(word: &Word<A>, only: Option<usize>, qubit: usize) -> Letter
+fn take_letter<A: Allocator + Copy>(
+    word: &Word<A>,
+    next: &mut Option<usize>,
+    qubit: usize,
+) -> Letter
     requires inside { qubit < length word.now.letters }
-    requires only { IfSome only (λ k. (i : ℕ) → i ≢ k → letter_at word.now.letters i ≡ I) }
-    ensures { result ≡ letter_at word.now.letters qubit }
+    requires few { qubit + 1 < 2 ^ 64 }
+    requires next { IsNextLetter word.now.letters qubit next.old }
+    ensures letter { result ≡ letter_at word.now.letters qubit }
+    ensures next { IsNextLetter word.now.letters (qubit + 1) next.new }
 {
-    if let Some(k) = only {
-        if qubit != k {
-            return Letter::I;
-        }
+    let Some(at) = *next else {
+        return Letter::I;
+    };
+    if at != qubit {
+        return Letter::I;
     }
+    *next = word.next_letter(qubit + 1);
     word.letter(qubit)
 }
 

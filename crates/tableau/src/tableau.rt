@@ -205,13 +205,7 @@ impl<A: Allocator + Copy> Tableau<A> {
             return outcome;
         }
         encode_letter(&self.rows, &mut self.second, &mut self.first, letter, qubit);
-        measure_code(
-            &mut self.rows,
-            &self.second.0,
-            Some(qubit),
-            &mut self.first,
-            coin,
-        )
+        measure_code(&mut self.rows, &self.second.0, &mut self.first, coin)
     }
 
     /// Measures a word as if its sign were plus, and answers the outcome: faster than `collapse_word`, which names a row.
@@ -222,7 +216,7 @@ impl<A: Allocator + Copy> Tableau<A> {
         ensures state { HasState self.new (collapsed word.now.letters coin (state_of self.old)) }
     {
         encode(&self.rows, word, &mut self.first);
-        measure_code(&mut self.rows, word, None, &mut self.first, coin)
+        measure_code(&mut self.rows, word, &mut self.first, coin)
     }
 
     /// Ends the reset of a qubit whose letter was measured: where the outcome is 1, applies the letter that turns it

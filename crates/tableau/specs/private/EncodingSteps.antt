@@ -5,7 +5,7 @@
 -- where x has X or Y, and let y be x with I at k. Each row is twisted about Z at k by y, and then goes through a gate at
 -- k; together these turn x into Z at k, and Z at k into X at k.
 -- (Gidney, Quantum 5, 497 (2021).)
-use Rattle.std.specs.Prelude.{◌≡◌, ◌<◌, ℕ, Bool, true, false, List, ◌∷◌, Option, None, Some, length, map, slice_set}
+use Rattle.std.specs.Prelude.{◌≡◌, ◌<◌, ℕ, zero, suc, Bool, true, false, List, [], ◌∷◌, Option, None, Some, length, map, slice_set}
 use Rattle.std.specs.List.{range_with_len}
 use Rattle.gate_table.specs.declared.gate.Gate.{Gate}
 use Rattle.gate_table.specs.declared.gate.Gate.TheVariants as gate
@@ -15,7 +15,7 @@ use Rattle.pauli_word.specs.declared.letter.Letter.{Letter}
 use Rattle.pauli_word.specs.declared.letter.Letter.TheVariants.{I, X, Z}
 use Rattle.pauli_word.specs.Letters.{letters_clash}
 use Rattle.pauli_word.specs.Parity.{exclusive_or}
-use Rattle.pauli_word.specs.Words.{Signed, signed, anticommute, with_sign_changed, product, lone_letter, letter_at, lowest_X_or_Y}
+use Rattle.pauli_word.specs.Words.{Signed, signed, anticommute, with_sign_changed, product, no_letters, lone_letter, letter_at, lowest_X_or_Y}
 use Rattle.tableau.specs.private.CliffordMaps.{turned, twisted}
 use Rattle.tableau.specs.private.Encoding.{Pair, word_of, encoded}
 
@@ -62,6 +62,12 @@ pair_after a r = (with_sign_changed (letters_clash X a) r.0, with_sign_changed (
 -- a gate that does what a letter does
 abbrev pub AppliesLetter : Gate → Letter → Type 0
 AppliesLetter g a = (n : ℕ) (r : Pair) → (preimage_word n g r X, preimage_word n g r Z) ≡ pair_after a r
+
+-- a word's letters before a qubit, with I from there on
+abbrev pub first_letters : ℕ → List Letter → List Letter
+first_letters zero w = no_letters (length w)
+first_letters (suc i) [] = []
+first_letters (suc i) (a ∷ w) = a ∷ first_letters i w
 
 -- the rows after a Pauli word is applied
 abbrev pub after_word : List Letter → List Pair → List Pair

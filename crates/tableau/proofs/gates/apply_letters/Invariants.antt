@@ -1,6 +1,5 @@
 use Rattle.std.proofs.Common.{◌≡◌}
-use Rattle.tableau.specs.private.EncodingSteps.{after_word}
-use Rattle.tableau.proofs.FirstLetters.{first_letters}
+use Rattle.tableau.specs.private.EncodingSteps.{first_letters, after_word}
 use Rattle.tableau.proofs.gates.apply_letters.Given as goal
 
 abbrev pub invariant-loop-qubit : goal.invariant-loop-qubit

@@ -6,22 +6,29 @@ use Rattle.tableau.proofs.RowClashes.{turns_read}
 use Rattle.tableau.proofs.TwistRows.{current, mapped_more}
 use Rattle.tableau.proofs.measure.turn_rows.Goals as goal
 
+pub take_letter-measured-requires-clause-inside : goal.take_letter-measured-requires-clause-inside
+take_letter-measured-requires-clause-inside g c = omega (arith, c.loop-row-test.true, c.len-row-end.ensures, c.requires.word)
+
 pub turn_pair-requires-clause-size : goal.turn_pair-requires-clause-size
 turn_pair-requires-clause-size g c =
     let within : c.loop-row.row < length c.args.rows.now.items = omega (arith, c.loop-row-test.true, c.len-row-end.ensures) in
     subst (HasLength (length c.args.turn.now.letters))
-    (sym (c.index_mut.ensures.value ∙ current _ c.args.rows.now.items c.loop-row.rows.items c.loop-row.row c.index_mut.result.now within c.loop-row.invariant))
+    (sym (c.index_mut.ensures.value ∙ current _ c.args.rows.now.items c.loop-row.rows.items c.loop-row.row c.index_mut.result.now within c.loop-row.invariant.rows))
     (c.requires.sizes c.loop-row.row c.index_mut.result.now within)
 
 pub turn_pair-requires-clause-clashes : goal.turn_pair-requires-clause-clashes
 turn_pair-requires-clause-clashes g c =
     let within : c.loop-row.row < length c.args.rows.now.items = omega (arith, c.loop-row-test.true, c.len-row-end.ensures) in
     turns_read (length c.args.turn.now.letters) c.args.rows.now.items c.loop-row.row c.index_mut.result.now within
-    (c.index_mut.ensures.value ∙ current _ c.args.rows.now.items c.loop-row.rows.items c.loop-row.row c.index_mut.result.now within c.loop-row.invariant)
-    (letter_at c.args.word.now.letters c.loop-row.row) c.measured_at-measured.result c.measured_at-measured.ensures c.args.qubit c.args.turn.now (c.requires.clashes c.loop-row.row within)
+    (c.index_mut.ensures.value ∙ current _ c.args.rows.now.items c.loop-row.rows.items c.loop-row.row c.index_mut.result.now within c.loop-row.invariant.rows)
+    (letter_at c.args.word.now.letters c.loop-row.row) c.take_letter-measured.result c.take_letter-measured.ensures.letter c.args.qubit c.args.turn.now (c.requires.clashes c.loop-row.row within)
 
 pub loop-row-preserved : goal.loop-row-preserved
 loop-row-preserved g c =
     let within : c.loop-row.row < length c.args.rows.now.items = omega (arith, c.loop-row-test.true, c.len-row-end.ensures) in
-    mapped_more (turned c.args.turn.now) c.args.rows.now.items c.loop-row.rows.items c.loop-row.row c.index_mut.result.now c.turn_pair.new.pair within
-    c.loop-row.invariant c.index_mut.ensures.value c.turn_pair.ensures
+    record {
+      rows =
+          mapped_more (turned c.args.turn.now) c.args.rows.now.items c.loop-row.rows.items c.loop-row.row c.index_mut.result.now c.turn_pair.new.pair within
+          c.loop-row.invariant.rows c.index_mut.ensures.value c.turn_pair.ensures;
+      next = c.take_letter-measured.ensures.next;
+    }

@@ -1,12 +1,11 @@
 -- A sign that is seen is the outcome; otherwise the letter's code is made, and measured.
-use Rattle.std.proofs.Common.{◌≡◌, ◌<◌, length, None, ap, sym, subst, ◌∙◌}
+use Rattle.std.proofs.Common.{◌≡◌, ◌<◌, length, None, sym, subst}
 use Rattle.pauli_word.specs.States.{collapsed}
-use Rattle.pauli_word.specs.Words.{letter_at, lone_letter}
+use Rattle.pauli_word.specs.Words.{lone_letter}
 use Rattle.pauli_word.proofs.LoneLetters.{length-lone_letter}
 use Rattle.tableau.specs.private.EncodingSteps.{code_of}
 use Rattle.tableau.specs.Rows.{row_count, state_of, IsCollapsed}
-use Rattle.tableau.proofs.LoneWords.{letter_elsewhere}
-use Rattle.tableau.proofs.KeptRows.{Keeps, inside, lone_word, lone_coded, outcome_owed, measures}
+use Rattle.tableau.proofs.KeptRows.{Keeps, inside, lone_coded, outcome_owed, measures}
 use Rattle.tableau.proofs.SeenOutcomes.{seen}
 use Rattle.tableau.proofs.tableau.Tableau.measure.Given.{Over}
 use Rattle.tableau.proofs.tableau.Tableau.measure.Goals as goal
@@ -30,10 +29,6 @@ returns-in-Some-clause-state g c = (seen_owed g (goal.at.returns-in-Some-clause-
 
 pub encode_letter-requires-clause-inside : goal.encode_letter-requires-clause-inside
 encode_letter-requires-clause-inside g c = inside c.self.inside.rows.items c.args.self.now c.self.invariant.0 c.self.view_is c.args.qubit c.requires
-
-pub measure_code-requires-clause-only : goal.measure_code-requires-clause-only
-measure_code-requires-clause-only g c i apart =
-    ap (λ letters. letter_at letters i) (lone_word c.self.inside.rows.items c.args.self.now c.self.invariant.0 c.self.view_is c.args.qubit c.args.letter _ c.encode_letter.ensures.letter) ∙ letter_elsewhere (row_count c.args.self.now) c.args.qubit i c.args.letter apart
 
 -- the letter's code
 coded : (g : Over) (c : After-measure_code g) → c.encode_letter.new.code.0 ≡ code_of (length c.self.inside.rows.items) c.self.inside.rows.items (lone_letter (row_count c.args.self.now) c.args.qubit c.args.letter)
