@@ -6,6 +6,7 @@ use Rattle.std.proofs.lemmas.Bool.{cases_lt, true≢false}
 use Rattle.std.proofs.lemmas.List.{get_or_past}
 use Rattle.std.proofs.lemmas.Nat.Bits.{bit_at_above}
 use Rattle.bit_rows.specs.Rows.{AreZeroAt}
+use Rattle.bit_rows.specs.private.Multiplied.{MarksBoth}
 use Rattle.bit_rows.specs.private.Words.{bit_of, bit_in, row_of, HoldsRow}
 use Rattle.bit_rows.proofs.BitLaws.{bit_of-or, bit_of-zero, bit_of_later, lowest_bit}
 use Rattle.bit_rows.proofs.Places.{bit_in_is, get_or-row_of, row_long}
@@ -69,6 +70,19 @@ none_before first second start i low high short before none k h below =
     ⊎_elim
     (λ (e : k < 64 * i + low). before k h e)
     (λ (e : 64 * i + low ≤ k). neither_in first second i (k % 64) k (omega arith) refl (none (k % 64) (omega arith) (omega arith)))
+    (cases_lt k (64 * i + low))
+
+-- the places of a word without a mark
+pub none_unmarked : (first second : List ℕ) (marks start i low : ℕ) → MarksBoth marks first second → i < 64 → bit_of marks i ≡ false
+    → ((k : ℕ) → start ≤ k → k < 64 * i + low → (bit_in first k ≡ false) × (bit_in second k ≡ false))
+    → (k : ℕ) → start ≤ k → k < 64 * i + 64 → (bit_in first k ≡ false) × (bit_in second k ≡ false)
+none_unmarked first second marks start i low both few unmarked before k h below =
+    ⊎_elim
+    (λ (e : k < 64 * i + low). before k h e)
+    (λ (e : 64 * i + low ≤ k).
+    let at : k / 64 ≡ i = omega arith in
+    let none : bit_of marks (k / 64) ≡ false = ap (bit_of marks) at ∙ unmarked in
+    (both.of_x.blank k (omega arith) none, both.of_z.blank k (omega arith) none))
     (cases_lt k (64 * i + low))
 
 -- past both lists no bit is set

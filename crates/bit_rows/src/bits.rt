@@ -1,6 +1,9 @@
 // The bit at a place of a list of words of 64 bits.
 ghost use Rattle.std.specs.Prelude.{◌≡◌, ◌==◌, ℕ, ◌+◌, ◌*◌, ◌/◌, ◌^◌, ◌<◌, ◌≤◌, ◌⊎◌, true, false, not, if◌then◌else◌, length, IfSome, IfNone};
+ghost use Rattle.bit_rows.specs.private.Multiplied.{MarksBoth};
 ghost use Rattle.bit_rows.specs.private.Words.{bit_of, bit_in};
+
+use crate::marks::is_unmarked;
 
 #[inline(always)]
 pub(crate) fn bit_at_place(words: &[u64], place: usize) -> bool
@@ -45,8 +48,14 @@ pub(crate) fn first_place(words: &[u64]) -> Option<usize>
     None
 }
 
-// The first place from `start` on with a set bit in one of two lists.
-pub(crate) fn first_place_from(first: &[u64], second: &[u64], start: usize) -> Option<usize>
+// The first place from `start` on with a set bit in one of two lists. Words without marks aren't read.
+pub(crate) fn first_place_from(
+    first: &[u64],
+    second: &[u64],
+    marks: u64,
+    start: usize,
+) -> Option<usize>
+    requires marks { MarksBoth marks first.now second.now }
     requires lengths { length first.now ≡ length second.now }
     requires few { 64 * length first.now ≤ 2 ^ 64 }
     ensures none { IfNone result ((k : ℕ)
@@ -61,6 +70,11 @@ pub(crate) fn first_place_from(first: &[u64], second: &[u64], start: usize) -> O
 {
     let mut low = start % 64;
     for i in start / 64..first.len() {
+        let unmarked = is_unmarked(marks, i);
+        if unmarked {
+            low = 0;
+            continue;
+        }
         if let Some(bit) = first_bit_from(first[i] | second[i], low) {
             return Some(64 * i + bit);
         }

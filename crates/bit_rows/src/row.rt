@@ -215,7 +215,13 @@ impl<A: Allocator + Copy> BitRow<A> {
             → k < i
             → AreZeroAt k first.now second.now) }
     {
-        first_place_from(first.words.as_slice(), second.words.as_slice(), start)
+        let marks = either(first.marks, second.marks);
+        first_place_from(
+            first.words.as_slice(),
+            second.words.as_slice(),
+            marks,
+            start,
+        )
     }
 
     /// The power of i, 0 to 3, of a product of Pauli words: the one with x bits `xa` and z bits `za`, times the one with

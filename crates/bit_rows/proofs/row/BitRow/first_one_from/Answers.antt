@@ -1,4 +1,5 @@
 use Rattle.std.proofs.Common.{arith, ap, refl, length}
+use Rattle.bit_rows.proofs.Marked.{marked_by_slice, marked_more}
 use Rattle.bit_rows.proofs.Places.{words_few, same_places, held_by_slice, seen_by_slice}
 use Rattle.bit_rows.proofs.NextPlaces.{none_seen, one_seen, before_seen, within_seen}
 use Rattle.bit_rows.proofs.row.BitRow.first_one_from.Goals as goal
@@ -11,6 +12,13 @@ first_place_from-requires-clause-lengths g c =
 pub first_place_from-requires-clause-few : goal.first_place_from-requires-clause-few
 first_place_from-requires-clause-few g c =
     omega (arith, words_few c.first.inside.places c.first.inside.words.items c.first.invariant.held, ap length c.as_slice.ensures.value)
+
+pub first_place_from-requires-clause-marks : goal.first_place_from-requires-clause-marks
+first_place_from-requires-clause-marks g c =
+    record {
+      of_x = marked_more c.first.inside.marks c.either-marks.result _ (λ b e. (c.either-marks.ensures b e).0) (marked_by_slice _ _ _ c.as_slice.ensures.value c.first.invariant.marked);
+      of_z = marked_more c.second.inside.marks c.either-marks.result _ (λ b e. (c.either-marks.ensures b e).1) (marked_by_slice _ _ _ c.as_slice-2.ensures.value c.second.invariant.marked);
+    }
 
 pub returns-clause-none : goal.returns-clause-none
 returns-clause-none g c =
