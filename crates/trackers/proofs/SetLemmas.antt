@@ -1,11 +1,11 @@
 -- Sets of targets as descending lists.
 use Rattle.std.proofs.Common.{◌≡◌, ℕ, zero, suc, ◌+◌, ◌-◌, ◌<◌, ◌≤◌, ◌==◌, nat_lt, Bool, true, false, not, List, [], ◌∷◌, ◌++◌, length, map, get_or, set, drop, take, inl, inr, Result, Ok, Err, OnOk, OnErr, refl, ap, ap₂, subst, sym, ◌∙◌, arith, append-nil}
 use Rattle.std.specs.Prelude.{◌⊎◌, filter, reverse, replicate, insert, remove, if◌then◌else◌}
-use Rattle.std.specs.List.{range_with_len}
+use Rattle.std.specs.List.{range_with_len, refill}
 use Rattle.std.proofs.Math.Nat.{suc_inj}
 use Rattle.std.proofs.lemmas.Bool.{eqb-true, ltb-true, ltb-false, lt-ltb, le-ltb, cases_eq, eq-eqb, ne_eqb}
 use Rattle.step_model.proofs.MemberLemmas.{filter_range_agree, filter_range_taken, filter_range_left, set-map-range}
-use Rattle.std.proofs.lemmas.List.{drop_all, drop_more, reverse-append}
+use Rattle.std.proofs.lemmas.List.{drop_all, drop_more, reverse-append, take_all, take_more}
 use Rattle.pauli_word.specs.Parity.{exclusive_or}
 use Rattle.pauli_word.proofs.Parities.{exclusive_or_assoc, exclusive_or_left_comm}
 use Rattle.step_model.specs.Targets.{is_listed}
@@ -243,7 +243,36 @@ descends_taken m zero xs h = tt
 descends_taken m (suc k) [] h = tt
 descends_taken m (suc k) (x ∷ xs) h = (h.0, descends_taken x k xs h.1)
 
+-- a list that ascends, the other way round, with one element more
+pub descends_more : (xs : List ℕ) (i m : ℕ) → i < length xs → ((n : ℕ) → (0 < i → get_or xs (i - 1) 0 < n) → DescendsBelow n (reverse (take i xs))) → (0 < i → get_or xs (i - 1) 0 < get_or xs i 0) → get_or xs i 0 < m
+    → DescendsBelow m (reverse (take (i + 1) xs))
+descends_more xs i m within held above low =
+    subst (DescendsBelow m) (sym (ap reverse (take_more xs i 0 within) ∙ reverse-append (take i xs) (get_or xs i 0 ∷ []))) (low, held (get_or xs i 0) above)
+
+-- a list that is written over, all of it
+pub all_refilled : (xs ws : List ℕ) → length ws ≡ length xs → refill (length xs) xs ws ≡ ws
+all_refilled xs ws h =
+    ap (λ rest. take (length xs) (ws ++ rest)) (drop_all (length ws) xs (omega (arith, h)))
+    ∙ (ap (take (length xs)) (append-nil ws) ∙ take_all (length xs) ws (omega (arith, h)))
+
 -- ---- rows
+listed_more : (xs : List ℕ) (x t : ℕ) → is_listed (xs ++ x ∷ []) t ≡ exclusive_or (x == t) (is_listed xs t)
+listed_more [] x t = refl
+listed_more (y ∷ xs) x t = ap (exclusive_or (y == t)) (listed_more xs x t) ∙ exclusive_or_left_comm (y == t) (x == t) (is_listed xs t)
+
+listed_reversed : (xs : List ℕ) (t : ℕ) → is_listed (reverse xs) t ≡ is_listed xs t
+listed_reversed [] t = refl
+listed_reversed (x ∷ xs) t =
+    ap (λ ys. is_listed ys t) (reverse-append (x ∷ []) xs)
+    ∙ (listed_more (reverse xs) x t ∙ ap (exclusive_or (x == t)) (listed_reversed xs t))
+
+pub row_of_reversed : (m : ℕ) (xs : List ℕ) → row_of_set m (reverse xs) ≡ row_of_set m xs
+row_of_reversed m xs = each 0 m
+  where
+    each : (k n : ℕ) → map (is_listed (reverse xs)) (range_with_len k n) ≡ map (is_listed xs) (range_with_len k n)
+    each k zero = refl
+    each k (suc n) = ap₂ (λ b l. b ∷ l) (listed_reversed xs k) (each (k + 1) n)
+
 pub row_of_xor_sets : (m : ℕ) (xs ys : List ℕ) → row_of_set m (xor_sets xs ys) ≡ xor_rows (row_of_set m xs) (row_of_set m ys)
 row_of_xor_sets m xs ys = each 0 m
   where

@@ -1,5 +1,5 @@
 //! Descending lists: changed where they stand, merged, and listed in ascending order.
-ghost use Rattle.std.specs.Prelude.{◌≡◌, ◌<◌, ◌≤◌, ◌+◌, ◌-◌, ◌++◌, [], ℕ, take, true, length, reverse, slice_index, IfSome, OnOk, OnErr};
+ghost use Rattle.std.specs.Prelude.{◌≡◌, ◌<◌, ◌≤◌, ◌+◌, ◌-◌, ◌++◌, [], ℕ, take, true, length, reverse, slice_index, All, IfOk, IfSome, OnOk, OnErr};
 ghost use Rattle.trackers.specs.private.Sets.{xor_sets, DescendsBelow, IsToggled};
 
 use smallvec::SmallVec;
@@ -295,6 +295,9 @@ pub(crate) fn list_ascending<B: Allocator + Copy>(
 ) -> Result<(), AllocError>
     ensures { OnOk result (into.new.items ≡ reverse items.now) }
 {
+    if items.len() > FEW {
+        return copy_reversed(items, into);
+    }
     into.clear();
     into.reserve(items.len())?;
     let mut left = items.len();
@@ -303,4 +306,61 @@ pub(crate) fn list_ascending<B: Allocator + Copy>(
         into.push_reserved(items[left]);
     }
     Ok(())
+}
+
+// The same for a long list, whose memory is copied in one go.
+#[inline(never)]
+fn copy_reversed<B: Allocator + Copy>(
+    items: &[u32],
+    into: &mut Vec<u32, B>,
+) -> Result<(), AllocError>
+    ensures { OnOk result (into.new.items ≡ reverse items.now) }
+{
+    into.clear();
+    into.extend_from_slice(items)?;
+    into.as_mut_slice().reverse();
+    Ok(())
+}
+
+/// Puts targets in place of what a list holds, the other way round, where they ascend, and answers whether they do. Their memory
+/// is copied in one go. The list is empty where they don't ascend, and after an error.
+#[inline(never)]
+pub(crate) fn put_ascending<A: Allocator + Copy>(
+    items: &mut SmallVec<u32, 4, A>,
+    targets: &[u32],
+) -> Result<bool, AllocError>
+    ensures put { IfOk result (λ put. put ≡ true → items.new.items ≡ reverse targets.now) }
+    ensures descends { (m : ℕ) → All (λ t. t < m) targets.now → DescendsBelow m items.new.items }
+{
+    items.clear();
+    if !ascends(targets) {
+        return Ok(false);
+    }
+    items.extend_from_slice(targets)?;
+    items.as_mut_slice().reverse();
+    Ok(true)
+}
+
+// Whether each of these is less than the next.
+fn ascends(targets: &[u32]) -> bool
+    ensures { result ≡ true
+        → (m : ℕ)
+        → All (λ t. t < m) targets.now
+        → DescendsBelow m (reverse targets.now) }
+{
+    for i in 0..targets.len() {
+        if !rises_at(targets, i) {
+            return false;
+        }
+    }
+    true
+}
+
+// Whether the target at an index is greater than the one before it, if there is one.
+#[inline(always)]
+fn rises_at(targets: &[u32], i: usize) -> bool
+    requires { i < length targets.now }
+    ensures { result ≡ true → 0 < i → slice_index targets.now (i - 1) < slice_index targets.now i }
+{
+    i == 0 || targets[i - 1] < targets[i]
 }

@@ -3,7 +3,8 @@ ghost use Rattle.std.specs.Prelude.{◌≡◌, false, length, replicate, OnOk};
 ghost use Rattle.bit_rows.specs.Rows.{xor_rows};
 
 use crate::descending::{
-    FEW, add_many, empty, list_ascending, put_few, sum_few, sum_few_of_four, toggle_in,
+    FEW, add_many, empty, list_ascending, put_ascending, put_few, sum_few, sum_few_of_four,
+    toggle_in,
 };
 use crate::target_set::TargetSet;
 use smallvec::SmallVec;
@@ -96,6 +97,10 @@ impl<'a, A: Allocator + Copy> TargetSet for SparseSet<'a, A> {
 
     fn list<B: Allocator + Copy>(&self, into: &mut Vec<u32, B>) -> Result<(), AllocError> {
         list_ascending(self.items.as_slice(), into)
+    }
+
+    fn put_ascending(&mut self, targets: &[u32]) -> Result<bool, AllocError> {
+        put_ascending(&mut self.items, targets)
     }
 
     #[inline(always)]

@@ -1,5 +1,5 @@
 //! Sets of targets, in which tracked words are kept.
-ghost use Rattle.std.specs.Prelude.{◌≡◌, ◌<◌, ◌≤◌, ◌^◌, false, not, length, replicate, reverse, take, All, IfOk, IfSome, OnOk, List, Bool, slice_index_or, slice_set};
+ghost use Rattle.std.specs.Prelude.{◌≡◌, ◌<◌, ◌≤◌, ◌^◌, true, false, not, length, replicate, reverse, take, All, IfOk, IfSome, OnOk, List, Bool, slice_index_or, slice_set};
 ghost use Rattle.bit_rows.specs.Rows.{xor_rows};
 ghost use Rattle.step_model.specs.TargetSets.{members, row_of_set};
 ghost use Rattle.trackers.specs.private.Transposed.{xor_where, AreAsLong};
@@ -47,6 +47,14 @@ pub trait TargetSet: Drop {
     fn list<B: Allocator + Copy>(&self, into: &mut Vec<u32, B>) -> Result<(), AllocError>
         requires { length (bits self.now) ≤ 2 ^ 32 }
         ensures { OnOk result (into.new.items ≡ members (bits self.now)) };
+
+    /// Makes the set that of the targets that a list has an odd number of times, where it answers that it did. It is for long lists that
+    /// ascend: a set need not take any. Otherwise nothing is promised of the set but how many targets it is of.
+    fn put_ascending(&mut self, targets: &[u32]) -> Result<bool, AllocError>
+        requires { All (λ t. t < length (bits self.old)) targets.now }
+        ensures put { IfOk result (λ put. put ≡ true
+            → bits self.new ≡ row_of_set (length (bits self.old)) targets.now) }
+        ensures len { length (bits self.new) ≡ length (bits self.old) };
 
     /// The targets in the set, the greatest first, where they are kept as such a list.
     fn kept(&self) -> Option<&[u32]>
@@ -98,6 +106,10 @@ impl<A: Allocator + Copy> TargetSet for BitRow<A> {
         Ok(())
     }
 
+    fn put_ascending(&mut self, _targets: &[u32]) -> Result<bool, AllocError> {
+        Ok(false)
+    }
+
     fn kept(&self) -> Option<&[u32]> {
         None
     }
@@ -147,6 +159,31 @@ pub(crate) fn add_where<S: TargetSet>(
 /// Makes a set that of the targets that a list has an odd number of times. Where the list ascends, the set is made
 /// fast.
 pub fn make_set<S: TargetSet>(set: &mut S, targets: &[u32]) -> Result<(), AllocError>
+    requires { All (λ t. t < length (S.bits set.old)) targets.now }
+    ensures ok { OnOk result (S.bits set.new ≡ row_of_set (length (S.bits set.old)) targets.now) }
+    ensures len { length (S.bits set.new) ≡ length (S.bits set.old) }
+{
+    if targets.len() < MANY {
+        make_in_turn(set, targets)
+    } else {
+        make_at_once(set, targets)
+    }
+}
+
+// The same, where it can be done at once.
+fn make_at_once<S: TargetSet>(set: &mut S, targets: &[u32]) -> Result<(), AllocError>
+    requires { All (λ t. t < length (S.bits set.old)) targets.now }
+    ensures ok { OnOk result (S.bits set.new ≡ row_of_set (length (S.bits set.old)) targets.now) }
+    ensures len { length (S.bits set.new) ≡ length (S.bits set.old) }
+{
+    if set.put_ascending(targets)? {
+        return Ok(());
+    }
+    make_in_turn(set, targets)
+}
+
+// The same, target by target.
+fn make_in_turn<S: TargetSet>(set: &mut S, targets: &[u32]) -> Result<(), AllocError>
     requires { All (λ t. t < length (S.bits set.old)) targets.now }
     ensures ok { OnOk result (S.bits set.new ≡ row_of_set (length (S.bits set.old)) targets.now) }
     ensures len { length (S.bits set.new) ≡ length (S.bits set.old) }

@@ -6,7 +6,7 @@ use Rattle.bit_rows.specs.Rows.{xor_rows}
 use Rattle.step_model.specs.TargetSets.{row_of_set}
 use Rattle.trackers.proofs.SetLemmas.{none_before}
 use Rattle.step_model.proofs.RowLemmas.{length-row_of_set}
-use Rattle.trackers.proofs.target_set.make_set.Goals as goal
+use Rattle.trackers.proofs.target_set.make_in_turn.Goals as goal
 
 pub toggle_down-requires : goal.toggle_down-requires
 toggle_down-requires g c =
