@@ -237,6 +237,11 @@ fn moved_target(target: u32, by: usize, staying: usize) -> Option<u32>
     }
 }
 
+/// How many lists and items of lists there are.
+pub(crate) fn size_of_lists<A: Allocator + Copy>(lists: &FlatLists<u32, A>) -> usize {
+    item_count(lists).saturating_add(lists.len())
+}
+
 /// How many items lists have in all.
 pub(crate) fn item_count<A: Allocator + Copy>(lists: &FlatLists<u32, A>) -> usize {
     let mut count: usize = 0;

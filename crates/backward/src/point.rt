@@ -1,7 +1,11 @@
 //! A place between two steps of a program, with the words there.
+use crate::moved::size_of_lists;
 use flat_lists::FlatLists;
 use programs::Walk;
 use std::alloc::Allocator;
+
+/// How many bytes an item of a list takes, and the place where a list ends.
+const ITEM: usize = 4;
 
 /// A walk, and a tracker whose words are taken back to its place.
 #[derive(Drop)]
@@ -14,6 +18,18 @@ pub(crate) struct Point<'p, 'a, A: Allocator + Copy, T> {
 pub(crate) struct KeptPoint<'p, 'a, A: Allocator + Copy> {
     pub(crate) walk: Walk<'p, 'a, A>,
     pub(crate) lists: FlatLists<u32, A>,
+}
+
+impl<A: Allocator + Copy> KeptPoint<'_, '_, A> {
+    /// How many items and lists of items its words take.
+    pub(crate) fn size(&self) -> usize {
+        size_of_lists(&self.lists)
+    }
+
+    /// About how many bytes its words take.
+    pub(crate) fn bytes(&self) -> usize {
+        self.size().saturating_mul(ITEM)
+    }
 }
 
 // Written out, so that it is a call in the proof of each function that owns one.

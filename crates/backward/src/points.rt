@@ -17,6 +17,16 @@ use trackers::Tracker;
 /// How many times as long as the way between two points a turn may be for it to be looked at: its lines are held.
 const LONGEST: usize = 8;
 
+/// Turns that repeat are gone back over at once where they have so great a part of the way, or are further than two points are apart.
+const SHARE: usize = 16;
+
+/// How many points are left on a way, at most; fewer where their words would take more bytes than these, but not fewer than four.
+pub(crate) const POINTS: usize = 60;
+
+const POINT_BYTES: usize = 64 << 20;
+
+const FEWEST_POINTS: usize = 4;
+
 /// The part of a way back that ends with turns that repeat, or with the way.
 pub(crate) struct Segment<'p, 'a, A: Allocator + Copy> {
     /// Points, the first of them where the part begins.
@@ -55,7 +65,7 @@ impl<'p, 'a, A: Allocator + Copy> Segment<'p, 'a, A> {
 }
 
 /// Goes back to `from`, or where it is `looking` over the first turns that repeat, finds no lines, and leaves points on
-/// the way: one where it begins, and further ones `distance` steps apart.
+/// the way: one where it begins, and further ones `distance` steps apart, or further where their words are long.
 #[inline(never)]
 pub(crate) fn leave_points<'s, 'p, 'a, A: Allocator + Copy, T: Tracker>(
     program: &'p Program<'a, A>,
@@ -80,13 +90,15 @@ pub(crate) fn leave_points<'s, 'p, 'a, A: Allocator + Copy, T: Tracker>(
     let end = at.walk.place();
     let mut points = Vec::new(*found.alloc);
     let mut next = end;
-    let mut looks = Looks::at(end, distance);
+    let mut looks = Looks::at(end, distance.min(end / SHARE));
     let mut turns = None;
     let longest = distance.saturating_mul(LONGEST);
+    let mut apart = distance;
     while turns.is_none() && at.walk.place() > from {
         if at.walk.place() <= next {
-            leave(&mut points, at)?;
-            next = next.saturating_sub(distance);
+            let bytes = leave(&mut points, at)?;
+            apart = apart.max(distance_beside(bytes, at.walk.place() - from));
+            next = next.saturating_sub(apart);
         }
         turns = back_over(program, looking, from, next, longest, at, found, &mut looks)?;
     }
@@ -166,16 +178,23 @@ fn back_without_lines<'s, 'p, 'a, A: Allocator + Copy, T: Tracker>(
     }
 }
 
-// Leaves a point.
+// How far apart points are left on a way of this many steps, at least, where the words of one take so many bytes.
+fn distance_beside(bytes: usize, way: usize) -> usize {
+    let points = POINT_BYTES / bytes.max(1);
+    way / points.min(POINTS).max(FEWEST_POINTS) + 1
+}
+
+// Leaves a point, and answers about how many bytes its words take.
 fn leave<'p, 'a, A: Allocator + Copy, T: Tracker>(
     points: &mut Vec<KeptPoint<'p, 'a, A>, A>,
     at: &Point<'p, 'a, A, T>,
-) -> Result<(), AllocError>
+) -> Result<usize, AllocError>
     ensures { OnOk result (IsLeft T.tracked at.now points.old.items points.new.items) }
 {
     let point = kept_point(*points.allocator(), at)?;
+    let bytes = point.bytes();
     points.push(point)?;
-    Ok(())
+    Ok(bytes)
 }
 
 /// The same point, with its words as lists.

@@ -23,6 +23,10 @@ pub(crate) fn kept_lists<'s, A: Allocator + Copy>(
         → r < to
         → slice_index_or kept (r - from) [] ≡ members (slice_index_or lists.now r []))) }
 {
+    // First, so that none is copied where one is missing.
+    if !are_lent(lists, from, to) {
+        return Ok(None);
+    }
     let mut kept = FlatLists::new(alloc);
     for rec in from..to {
         match lists.lent(rec) {
@@ -31,6 +35,18 @@ pub(crate) fn kept_lists<'s, A: Allocator + Copy>(
         }
     }
     Ok(Some(kept))
+}
+
+// Whether the lists of some records all stand as they are asked for.
+fn are_lent<'s, A: Allocator + Copy>(lists: &ChangingLists<'s, A>, from: usize, to: usize) -> bool
+    requires { to ≤ length lists.now }
+{
+    for rec in from..to {
+        if lists.lent(rec).is_none() {
+            return false;
+        }
+    }
+    true
 }
 
 /// The lowest record from which on the lists of all records up to `end` are those of the turn after them, one turn earlier; `least`

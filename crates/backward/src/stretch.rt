@@ -10,16 +10,13 @@ ghost use Rattle.backward.specs.private.Points.{AreParts, ArePoints, IsFor, IsPo
 use crate::found::Found;
 use crate::pass::steps_back;
 use crate::point::{KeptPoint, Point};
-use crate::points::leave_points;
+use crate::points::{POINTS, leave_points};
 use crate::text_store::TextStore;
 use error_models::HeldText;
 use programs::Program;
 use std::alloc::{AllocError, Allocator};
 use step_model::{Pieces, Sink};
 use trackers::Tracker;
-
-/// How many points are left on the way to the start of a stretch, at most.
-const POINTS: usize = 60;
 
 /// A point takes little where there are no more qubits than these.
 const FEW_QUBITS: u32 = 256;
@@ -150,7 +147,7 @@ pub(crate) fn cut<'s, 'p, 'a, A: Allocator + Copy, T: Tracker>(
     let distance = if found.is_random() {
         usize::MAX
     } else {
-        distance_for(place - from, to - place, program.qubits())
+        distance_for(place - from, lines.full_steps(to - place), program.qubits())
     };
     found.keeps = true;
     let segment = leave_points(program, false, from, distance, at, found)?;
@@ -159,8 +156,8 @@ pub(crate) fn cut<'s, 'p, 'a, A: Allocator + Copy, T: Tracker>(
     Ok(Parts { points, end })
 }
 
-/// How far apart points are left on a way of this many steps, where the text of the steps behind them is full. The text
-/// between two points is held beside that one, so it is shorter where more points take little.
+/// How far apart points are left on a way of this many steps, where the text of so many is full. The text between two points is
+/// held beside that of the steps behind them, so it is shorter where more points take little.
 pub(crate) fn distance_for(way: usize, full: usize, qubits: u32) -> usize {
     let near = if qubits <= FEW_QUBITS { full / 4 } else { full };
     near.max(way / POINTS + 1)
@@ -189,6 +186,7 @@ fn cut_from<'s, 'p, 'a, A: Allocator + Copy, T: Tracker>(
     ensures none { OnOk result (lines.new.text.text ≡ []) }
     ensures store { lines.new.program.now ≡ lines.old.program.now }
 {
+    lines.hold_part(point.bytes());
     at.tracker.restore(&point.lists)?;
     at.walk = point.walk.copy();
     cut(program, from, at, found, lines)

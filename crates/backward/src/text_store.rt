@@ -21,6 +21,9 @@ const PARTS: usize = 4;
 /// How many times its room a part may take, so that it isn't parted again where it is longer than others.
 const WHOLE_PART: usize = 8;
 
+/// From how many bytes on words are long: the text of a part then has as much room as they take, so that it pays to restore them.
+const LONG_WORDS: usize = 512 << 10;
+
 /// A text that is to be whole grows by its room in this many steps, and whether it still seems to fit is thought about
 /// after each.
 const STEPS: usize = 32;
@@ -38,8 +41,10 @@ pub(crate) struct TextStore<'p, 'a, A: Allocator + Copy> {
     // For each part of the table the number of its text among those that are kept beside the lines.
     numbers: Vec<usize, A>,
     text: LinesText<'a, A>,
-    // From how many bytes on the text of a part is full, and how many a text may have where it seems to be whole then.
+    // How much room the text of a part has.
     room: usize,
+    // From how many bytes on a text is full, and how many it may have where it seems to be whole then.
+    full: usize,
     whole: usize,
     ghost fits: { IsTextFor program.now chances numbers.items text },
 }
@@ -53,6 +58,7 @@ impl<A: Allocator + Copy> Drop for TextStore<'_, '_, A> {
             numbers,
             text,
             room: _,
+            full: _,
             whole: _,
         } = self;
         drop(numbers);
@@ -80,6 +86,7 @@ impl<'p, 'a, A: Allocator + Copy> TextStore<'p, 'a, A> {
             numbers,
             text,
             room: room / PARTS,
+            full: room / PARTS,
             whole: room.saturating_mul(WHOLE),
         })
     }
@@ -102,20 +109,30 @@ impl<'p, 'a, A: Allocator + Copy> TextStore<'p, 'a, A> {
     // The same, and from how many bytes on it is thought about again.
     #[inline(never)]
     fn is_full_at(&self, len: usize, next: &mut usize, steps: usize, all: usize) -> bool {
-        if len < self.room {
-            *next = self.room;
+        if len < self.full {
+            *next = self.full;
             return false;
         }
-        *next = len.saturating_add(self.room / STEPS).min(self.whole);
+        *next = len.saturating_add(self.full / STEPS).min(self.whole);
         !fits(len, steps, all, self.whole)
     }
 
-    /// From now on the texts are those of parts.
-    pub(crate) fn hold_parts(&mut self)
+    /// How many steps a full text has, by how many bytes the text of the latest `steps` has: so many at least.
+    pub(crate) fn full_steps(&self, steps: usize) -> usize {
+        (steps.saturating_mul(self.full) / self.text.len().max(1)).max(steps)
+    }
+
+    /// The next text is that of a part before which words of so many bytes are restored.
+    pub(crate) fn hold_part(&mut self, words: usize)
         ensures text { self.new.text ≡ self.old.text }
         ensures program { self.new.program.now ≡ self.old.program.now }
     {
-        self.whole = self.room.saturating_mul(WHOLE_PART);
+        self.full = if words < LONG_WORDS {
+            self.room
+        } else {
+            self.room.max(words)
+        };
+        self.whole = self.full.saturating_mul(WHOLE_PART);
     }
 
     // The number of the text of an entry's probability.

@@ -86,6 +86,11 @@ impl<'p, 'a, A: Allocator + Copy> TurnLines<'p, 'a, A> {
         are_clear(&self.targets, shift)
     }
 
+    /// How many lines and targets of lines are kept, about.
+    pub(crate) fn size(&self) -> usize {
+        self.kept
+    }
+
     /// Whether more lines are to be kept.
     pub(crate) fn has_room(&self) -> bool {
         self.kept < MOST

@@ -11,7 +11,7 @@ ghost use Rattle.backward.specs.private.Turns.{AreGonePast, AreKept, ArePassed, 
 
 use crate::found::Found;
 use crate::line_store::LineStore;
-use crate::moved::{Shift, are_earlier, grown_lists, growth};
+use crate::moved::{Shift, are_earlier, grown_lists, growth, size_of_lists};
 use crate::pass::steps_back;
 use crate::point::{KeptPoint, Point};
 use crate::points::kept_point;
@@ -30,8 +30,14 @@ const STRIDE: usize = 16;
 /// back over at once: each is kept in memory.
 const MOST_GROWN: usize = 1 << 20;
 
-/// After how many steps it is looked again for a turn, where there is none.
+/// After how many steps it is looked again for a turn, where there is none: later after twice as many, and so on up to the most. To
+/// find that there is none may take as long as a turn, where there is feedback.
 const FAR: usize = 512;
+
+const FARTHEST: usize = 16384;
+
+/// About how many items of lists are copied and compared in the time of a step.
+const STEP_ITEMS: usize = 16;
 
 /// The words at a place of a turn that repeats the one after it.
 pub(crate) struct Period<'p, 'a, A: Allocator + Copy> {
@@ -105,6 +111,8 @@ pub(crate) struct Looks {
     pub(crate) ask: usize,
     /// After how many turns to look again, where one didn't repeat, or too few did.
     wait: usize,
+    /// After how many steps to look again, where there was none.
+    far: usize,
     /// How many steps turns have that are gone back over at once, at least.
     least: usize,
 }
@@ -115,14 +123,23 @@ impl Looks {
         Looks {
             ask: place,
             wait: 1,
+            far: FAR,
             least,
         }
     }
 
-    // It is looked again so many turns before a place, and later after twice as many.
-    fn look_again(&mut self, place: usize, steps: usize) {
-        self.ask = place.saturating_sub(steps.saturating_mul(self.wait));
+    // It is looked again so many turns before a place, and later after twice as many: but no sooner than after as many steps as a
+    // look at lists of so many items takes time, so that all looks take no more than the steps.
+    fn look_again(&mut self, place: usize, steps: usize, items: usize) {
+        let far = steps.saturating_mul(self.wait).max(items / STEP_ITEMS);
+        self.ask = place.saturating_sub(far);
         self.wait = self.wait.saturating_mul(2);
+    }
+
+    // There was no turn before a place.
+    fn none_before(&mut self, place: usize) {
+        self.ask = place.saturating_sub(self.far);
+        self.far = self.far.saturating_mul(2).min(FARTHEST);
     }
 }
 
@@ -131,6 +148,8 @@ impl Looks {
 struct TurnStart {
     place: usize,
     records: usize,
+    /// The same place in the first turn of the block, or in the first that isn't before where a pass ends.
+    first: usize,
 }
 
 // The place one turn before that of a walk, where there is one that isn't before `from`. Feedback between the two depends on
@@ -141,6 +160,7 @@ fn turn_to<A: Allocator + Copy>(
     keeps: bool,
 ) -> Option<TurnStart>
     ensures place { IfSome result (λ to. (from ≤ to.place) × (to.place < walk.now.place)) }
+    ensures first { IfSome result (λ to. (from ≤ to.first) × (to.first ≤ to.place)) }
     ensures records { IfSome result (λ to. to.records
         ≡ records_before walk.now.program.listing to.place) }
     ensures turn { IfSome result (λ to. IsTurn walk.now.program.listing to.place walk.now.place
@@ -151,9 +171,12 @@ fn turn_to<A: Allocator + Copy>(
     if place < from {
         return None;
     }
+    let mut first = earlier.copy();
+    let _turns = first.pass_turns_back(walk, from);
     Some(TurnStart {
         place,
         records: earlier.records(),
+        first: first.place(),
     })
 }
 
@@ -258,6 +281,20 @@ fn repeat_turns<'s, 'p, 'a, A: Allocator + Copy, T: Tracker>(
     Ok(turns)
 }
 
+// How many items are copied and compared by a look at a turn: of the words before and behind it, of its lists of records, and of
+// its lines.
+fn items_looked_at<'p, 'a, A: Allocator + Copy>(
+    point: &KeptPoint<'p, 'a, A>,
+    later: &KeptPoint<'p, 'a, A>,
+    listed: &FlatLists<u32, A>,
+    lines: &TurnLines<'p, 'a, A>,
+) -> usize {
+    let words = point.size().saturating_add(later.size());
+    words
+        .saturating_add(size_of_lists(listed))
+        .saturating_add(lines.size())
+}
+
 // Goes back over the turns before a place that repeat the turn behind it, whose words and lines these are, and keeps
 // them. Where none does, it is looked again later, each time after twice as many turns.
 fn repeats<'s, 'p, 'a, A: Allocator + Copy, T: Tracker>(
@@ -291,21 +328,22 @@ fn repeats<'s, 'p, 'a, A: Allocator + Copy, T: Tracker>(
     let place = at.walk.place();
     let steps = later.walk.place() - place;
     let point = kept_point(*found.alloc, at)?;
+    let items = items_looked_at(&point, &later, listed, &lines);
     let Some(period) = period_at(program, from, later, listed, &lines, point, found) else {
-        looks.look_again(place, steps);
+        looks.look_again(place, steps, items);
         return Ok(None);
     };
     if place.saturating_sub(period.end) < looks.least {
-        looks.look_again(period.end, steps);
+        looks.look_again(period.end, steps, items);
+        return Ok(None);
+    }
+    let turns = repeat_turns(program, period.end, &period, at, found)?;
+    if turns == 0 {
+        looks.look_again(place, steps, items);
         return Ok(None);
     }
     looks.wait = 1;
-    let turns = repeat_turns(program, period.end, &period, at, found)?;
     looks.ask = at.walk.place();
-    if turns == 0 {
-        looks.ask = place.saturating_sub(steps);
-        return Ok(None);
-    }
     Ok(Some(KeptTurns {
         lines,
         start: at.walk.place(),
@@ -383,7 +421,8 @@ fn given_turn<'s, 'p, 'a, A: Allocator + Copy, T: Tracker, L: LineStore>(
 }
 
 /// Looks for a turn before a place, to `from` at most, that isn't longer than so many steps: goes back over it, gives
-/// its lines, and then goes back over the turns before it that repeat it, which are kept.
+/// its lines, and then goes back over the turns before it that repeat it, which are kept. Where too few are before it in its block,
+/// none is looked at.
 #[inline(never)]
 pub(crate) fn pass_turns<'s, 'p, 'a, A: Allocator + Copy, T: Tracker, L: LineStore>(
     program: &'p Program<'a, A>,
@@ -409,11 +448,16 @@ pub(crate) fn pass_turns<'s, 'p, 'a, A: Allocator + Copy, T: Tracker, L: LineSto
     ensures store { L.program lines.new ≡ L.program lines.old }
 {
     let Some(to) = turn_to(&at.walk, from, found.keeps) else {
-        looks.ask = at.walk.place().saturating_sub(FAR);
+        looks.none_before(at.walk.place());
         return Ok(None);
     };
+    looks.far = FAR;
     looks.ask = to.place;
     if at.walk.place() - to.place > longest {
+        return Ok(None);
+    }
+    if to.place - to.first < looks.least {
+        looks.ask = to.first;
         return Ok(None);
     }
     let records = at.walk.records();
@@ -423,8 +467,9 @@ pub(crate) fn pass_turns<'s, 'p, 'a, A: Allocator + Copy, T: Tracker, L: LineSto
     let later = kept_point(*found.alloc, at)?;
     let turn = given_turn(program, to.place, at, found, lines)?;
     if at.walk.place() > to.place {
-        looks.ask = at.walk.place().saturating_sub(FAR);
+        let items = later.size().saturating_add(turn.size());
+        looks.look_again(at.walk.place(), FAR, items);
         return Ok(None);
     }
-    repeats(program, from, later, &listed, turn, at, found, looks)
+    repeats(program, to.first, later, &listed, turn, at, found, looks)
 }

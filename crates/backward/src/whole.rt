@@ -64,7 +64,8 @@ pub(crate) fn cut_whole<'s, 'p, 'a, A: Allocator + Copy, T: Tracker>(
     let distance = if found.is_random() {
         usize::MAX
     } else {
-        distance_for(cut, to - end_of(cut, &turns), program.qubits())
+        let steps = lines.full_steps(to - end_of(cut, &turns));
+        distance_for(cut, steps, program.qubits())
     };
     found.keeps = true;
     let segments = leave_segments(program, distance, at, found)?;

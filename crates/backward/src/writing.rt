@@ -28,7 +28,7 @@ use step_model::{Fault, Pieces, Place, Sink};
 use trackers::Tracker;
 
 /// The room for the text of error lines. Up to five times as many bytes are held where that is all of it, else a quarter as
-/// many of its end, and of another part up to twice as many.
+/// many of its end, and of another part up to twice as many, or eight times as many as the words before it take.
 const ROOM: usize = 2 << 20;
 
 /// Writes the text of the error model of a program; or answers the lowest target that is random, observable k being the
@@ -133,7 +133,6 @@ fn push_parts<'s, 'p, 'a, A: Allocator + Copy, T: Tracker, W: Sink>(
         Some(random) => Ok(Some(random)),
         None => {
             found.settled = true;
-            lines.hold_parts();
             let Whole {
                 mut segments,
                 cut,

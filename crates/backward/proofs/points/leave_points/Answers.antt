@@ -5,7 +5,7 @@ use Rattle.backward.specs.private.Points.{ArePoints}
 use Rattle.backward.proofs.PointLemmas.{kept_on_way, kept_way, left_behind, left_on_way, segment_of, step_before}
 use Rattle.backward.proofs.StepLemmas.{stays_as, stays_on}
 use Rattle.backward.proofs.points.leave_points.Goals as goal
-use Rattle.backward.proofs.points.leave_points.Goals.{then-place-next+in_ok-leave, else-place-next, then-loop-at-test+else-place-from, else-loop-at-test}
+use Rattle.backward.proofs.points.leave_points.Goals.{then-place-next+in_ok-bytes, else-place-next, then-loop-at-test+else-place-from, else-loop-at-test}
 
 no_turns : {X : Type 0} (o : Option X) (b : Bool) → o ≡ None → is_some o ≡ not b → b ≡ false → ⊥
 no_turns None b e f g = let some : false ≡ true = f ∙ ap not g in cc
@@ -40,11 +40,11 @@ loop-at-preserved g c =
     let back : at.walk.place < place = e.back in
     let left : ArePoints program c.args.from cut points × All (λ p. place ≤ p.walk.place) points =
     elim c.if-place-next.branch [
-      | then-place-next+in_ok-leave w ↦
+      | then-place-next+in_ok-bytes w ↦
           let items = sym (ap (λ v. v.items) w.points-is) in (
             subst (ArePoints program c.args.from cut) items
-                (left_on_way program tracked c.args.from cut l.next l.at l.found l.points.items _ above (l.invariant.program_is ∙ c.requires.program) l.invariant.passed l.invariant.behind w.in_ok-leave.ensures l.invariant.points),
-            subst (All (λ p. place ≤ p.walk.place)) items (left_behind program tracked l.at l.points.items _ l.invariant.behind w.in_ok-leave.ensures),
+                (left_on_way program tracked c.args.from cut l.next l.at l.found l.points.items _ above (l.invariant.program_is ∙ c.requires.program) l.invariant.passed l.invariant.behind w.in_ok-bytes.ensures l.invariant.points),
+            subst (All (λ p. place ≤ p.walk.place)) items (left_behind program tracked l.at l.points.items _ l.invariant.behind w.in_ok-bytes.ensures),
           )
       | else-place-next w ↦
           let items = sym (ap (λ v. v.items) w.points-is) in (
