@@ -40,14 +40,19 @@ fn are_numbers(text: &[u8]) -> bool
         .all(|piece| number_below(usize::MAX, piece).is_some())
 }
 
-/// The numbers of the pieces between commas, in their order.
+/// The numbers of the pieces between commas, in their order. Room for as many as there are pieces is asked for once: without it
+/// `extend` would ask again where a growth is refused.
 fn numbers_in_turn<A: Allocator + Copy>(alloc: A, text: &[u8]) -> Result<Vec<usize, A>, AllocError>
     ensures { IfOk result (λ numbers. numbers.items
         ≡ filter_map (number_below usize.MAX) (slice_split is_comma text.now)) }
 {
-    text.split(|b| *b == b',')
-        .filter_map(|piece| number_below(usize::MAX, piece))
-        .collect(alloc)
+    let pieces = text.split(|b| *b == b',').count();
+    let mut numbers = Vec::with_capacity(alloc, pieces)?;
+    numbers.extend(
+        text.split(|b| *b == b',')
+            .filter_map(|piece| number_below(usize::MAX, piece)),
+    )?;
+    Ok(numbers)
 }
 
 /// Whether each number is below the next.

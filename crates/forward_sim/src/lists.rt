@@ -45,11 +45,16 @@ fn are_zeros_and_ones(text: &[u8]) -> bool
     text.iter().all(|b| *b == b'0' || *b == b'1')
 }
 
-/// For each byte, whether it is a digit 1.
+/// For each byte, whether it is a digit 1. Room for all of them is asked for once: `collect` would go on in smaller steps where
+/// that is refused.
 fn ones<A: Allocator + Copy>(alloc: A, text: &[u8]) -> Result<Vec<bool, A>, AllocError>
     ensures { IfOk result (λ v. v.items ≡ map is_one text.now) }
 {
-    text.iter().map(|b| *b == b'1').collect(alloc)
+    let mut ones = Vec::with_capacity(alloc, text.len())?;
+    for byte in text {
+        ones.push(*byte == b'1')?;
+    }
+    Ok(ones)
 }
 
 /// The number that a piece of a list writes, where it is one and below a count. While it is read it stays at the count

@@ -84,6 +84,5 @@ pub(crate) fn coordinates_of<A: Allocator + Copy>(
             }
         }
     }
-    coordinates.shrink_to_fit();
     Ok(coordinates)
 }

@@ -145,5 +145,4 @@ loop-i-preserved g c =
 
 pub returns : goal.returns
 returns g c =
-    c.shrink_to_fit.ensures
-    ∙ placing-done c.args.circuit.now c.loop-i.i c.loop-i.offset c.loop-i.coordinates c.loop-i.blocks.items c.loop-i.invariant (omega (arith, c.len-i-end.ensures))
+    placing-done c.args.circuit.now c.loop-i.i c.loop-i.offset c.loop-i.coordinates c.loop-i.blocks.items c.loop-i.invariant (omega (arith, c.len-i-end.ensures))
