@@ -9,13 +9,11 @@ ghost use Rattle.frames.specs.declared.side_runs.Shown.TheVariants.{Detections};
 ghost use Rattle.step_model.specs.Faults.{memory_fault};
 ghost use Rattle.unroll.specs.Programs.{program_in};
 
-use crate::analysis::fresh_words;
-use crate::limited::Limited;
+use crate::asking::{Randomness, randomness_of};
 use crate::order::Status;
 use crate::refusing::refuse;
-use backward::first_random;
 use frames::Shown;
-use programs::{Program, Walk};
+use programs::Program;
 use std::alloc::Allocator;
 use step_model::{Cause, Fault, Sink};
 use unroll::{Untargeted, read_program, read_untargeted};
@@ -92,8 +90,7 @@ fn write_shots<W: Sink, A: Allocator + Copy>(
     Ok(Status::Done)
 }
 
-/// Whether frames alone show this of a program: detections, where it is soon known that no target is random. All memory that the
-/// question takes is let go of.
+/// Whether frames alone show this of a program: detections, where it is soon known that no target is random.
 fn goes_alone<A: Allocator + Copy>(
     alloc: A,
     program: &Program<'_, A>,
@@ -105,17 +102,9 @@ fn goes_alone<A: Allocator + Copy>(
 {
     match shown {
         Shown::Records => Ok(false),
-        Shown::Detections => none_is_random(alloc, program),
+        Shown::Detections => {
+            let known = randomness_of(alloc, program)?;
+            Ok(matches!(known, Randomness::Absent))
+        }
     }
-}
-
-/// Whether no target is random, where few letters show it.
-fn none_is_random<A: Allocator + Copy>(alloc: A, program: &Program<'_, A>) -> Result<bool, Fault>
-    ensures ok { IfOk result (λ none. IsTrue none → NoneIsRandom program.now.listing) }
-    ensures err { IfErr result (λ e. e ≡ memory_fault) }
-{
-    let faults = program.fault_count() as usize;
-    let steps = Walk::end(program).place().saturating_sub(faults);
-    let words = Limited::new(fresh_words(&alloc, program)?, steps);
-    Ok(matches!(first_random(alloc, program, words), Ok(None)))
 }

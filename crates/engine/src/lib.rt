@@ -3,6 +3,7 @@
 
 mod analysis;
 mod answering;
+mod asking;
 mod drawing;
 mod limited;
 mod lines;

@@ -1,5 +1,5 @@
 //! A tracker whose words stay short.
-ghost use Rattle.std.specs.Prelude.{◌≡◌, ◌<◌};
+ghost use Rattle.std.specs.Prelude.{◌≡◌, ◌<◌, true, OnErr, OnOk};
 
 use flat_lists::FlatLists;
 use gate_table::Gate;
@@ -12,29 +12,27 @@ use trackers::{FEW, Tracker};
 /// is up to 25 times as much.
 const MOST_HELD: usize = 1 << 20;
 
-/// How many letters may be gone over: so many, and more for each step, which takes about the time of a reference run.
-const MOST_READ: usize = 1 << 18;
-
-const READ_A_STEP: usize = 16;
-
-/// A tracker that answers as where memory runs out once its words have too many letters, or too many were gone over: for who has
-/// another way where the words of targets are long. It counts them by the lists that its tracker keeps.
+/// A tracker that answers an error once its words have too many letters, or too many were gone over, and notes that it did: for who
+/// has another way where the words of targets are long. An error without the note is want of memory. It counts letters by the lists
+/// that its tracker keeps.
 #[derive(Drop)]
-pub(crate) struct Limited<T> {
+pub(crate) struct Limited<'n, T> {
     tracker: T,
     held: usize,
     left: usize,
+    is_reached: &'n mut bool,
 }
 
-impl<T: Tracker> Limited<T> {
-    /// A tracker whose words are the identity, for a program of so many steps.
-    pub(crate) fn new(tracker: T, steps: usize) -> Self
+impl<'n, T: Tracker> Limited<'n, T> {
+    /// A tracker whose words are the identity, which may go over so many letters, and where it notes that it reached a limit.
+    pub(crate) fn new(tracker: T, most: usize, is_reached: &'n mut bool) -> Self
         ensures { result.tracker ≡ tracker }
     {
         Limited {
             tracker,
             held: 0,
-            left: steps.saturating_mul(READ_A_STEP).saturating_add(MOST_READ),
+            left: most,
+            is_reached,
         }
     }
 
@@ -64,24 +62,37 @@ impl<T: Tracker> Limited<T> {
         }
     }
 
+    /// Notes that a limit is reached, and answers the error for it.
+    fn give_up(&mut self) -> AllocError
+        ensures tracker { self.new.tracker ≡ self.old.tracker }
+        ensures noted { self.new.is_reached.now ≡ true }
+    {
+        *self.is_reached = true;
+        AllocError
+    }
+
     /// Counts letters that were gone over.
     fn count_read(&mut self, letters: usize) -> Result<(), AllocError>
-        ensures { self.new.tracker ≡ self.old.tracker }
+        ensures tracker { self.new.tracker ≡ self.old.tracker }
+        ensures noted { OnErr result (self.new.is_reached.now ≡ true) }
+        ensures kept { OnOk result (self.new.is_reached.now ≡ self.old.is_reached.now) }
     {
         self.left = self.left.saturating_sub(letters);
         if self.left == 0 {
-            return Err(AllocError);
+            return Err(self.give_up());
         }
         Ok(())
     }
 
     /// Counts letters that took the place of others.
     fn count_replaced(&mut self, before: usize, after: usize) -> Result<(), AllocError>
-        ensures { self.new.tracker ≡ self.old.tracker }
+        ensures tracker { self.new.tracker ≡ self.old.tracker }
+        ensures noted { OnErr result (self.new.is_reached.now ≡ true) }
+        ensures kept { OnOk result (self.new.is_reached.now ≡ self.old.is_reached.now) }
     {
         self.held = self.held.saturating_sub(before).saturating_add(after);
         if self.held > MOST_HELD {
-            return Err(AllocError);
+            return Err(self.give_up());
         }
         self.count_read(after)
     }
@@ -103,7 +114,7 @@ fn letter_count<A: Allocator + Copy>(lists: &FlatLists<u32, A>) -> usize {
     count
 }
 
-impl<T: Tracker> Tracker for Limited<T> {
+impl<'n, T: Tracker> Tracker for Limited<'n, T> {
     ghost tracked = { λ limited. T.tracked limited.tracker };
 
     fn keep<B: Allocator + Copy>(&self, alloc: B) -> Result<FlatLists<u32, B>, AllocError> {
