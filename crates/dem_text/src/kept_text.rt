@@ -1,7 +1,8 @@
 ghost use Rattle.std.specs.Prelude.{◌≡◌, ◌<◌, ◌-◌, ◌^◌, ◌⊎◌, ℕ, List, length, Ok, Err, IfOk, IfErr, IfSome, IfNone, OnOk, OnErr, OnSome};
 ghost use Rattle.std.specs.Option.{option_map};
 ghost use Rattle.std.specs.List.Sorted.{IsStrictlyIncreasing};
-ghost use Rattle.step_model.specs.Ends.{HandsOutMany, HandsOutSome, IsAtEnd, read_failures};
+ghost use Rattle.step_model.specs.Ends.{HandsOutSome, IsAtEnd, read_failures};
+ghost use Rattle.step_model.specs.Endless.{HandsOutMany};
 ghost use Rattle.step_model.specs.ErrorModels.{ErrorModel};
 ghost use Rattle.step_model.specs.Faults.{memory_fault, read_fault};
 ghost use Rattle.dem_text.specs.KeptTexts.{HasKept, IsKeptOf};

@@ -1,5 +1,6 @@
 pub mod Chances
 pub mod Ends
+pub mod Endless
 pub mod ErrorModels
 pub mod Faults
 pub mod Frames

@@ -1,6 +1,6 @@
 use Rattle.std.proofs.Common.{◌∙◌, refl, subst, [], arith}
 use Rattle.std.proofs.lemmas.Result.{err_from_is_err_and}
-use Rattle.step_model.specs.Ends.{HandsOutMany}
+use Rattle.step_model.specs.Endless.{HandsOutMany}
 use Rattle.step_model.proofs.EndsLemmas.{HandsOut-kept, HandsOut-many, HandsOut-nil}
 use Rattle.dem_text.proofs.KeptTextLemmas.{gathered-first, gathered-kept, gathered-keeps, gathered-long, gathered-more, gathered-some}
 use Rattle.dem_text.proofs.kept_text.keep_to_end.Goals as goal

@@ -1,5 +1,5 @@
 use Rattle.std.proofs.Common.{◌≡◌}
-use Rattle.step_model.specs.Ends.{HandsOutMany}
+use Rattle.step_model.specs.Endless.{HandsOutMany}
 use Rattle.dem_text.specs.private.Taking.{IsGathered}
 use Rattle.dem_text.proofs.kept_text.keep_to_end.Given as goal
 

@@ -1,5 +1,6 @@
 use Rattle.std.proofs.Common.{◌≡◌}
-use Rattle.step_model.specs.Ends.{HandsOut, HandsOutMany}
+use Rattle.step_model.specs.Ends.{HandsOut}
+use Rattle.step_model.specs.Endless.{HandsOutMany}
 use Rattle.step_model.proofs.ends.read_to_end.Given as goal
 
 -- the bytes so far are those handed out so far, each call handed out one at least, and none failed
