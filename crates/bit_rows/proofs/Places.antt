@@ -1,6 +1,6 @@
 -- The bit at a place of a list of words, and the row that the words hold: its length, the bit at a place, a row from
 -- its bits, and a row after one bit was put.
-use Rattle.std.proofs.Common.{take, drop, ◌++◌, ◌≡◌, ℕ, zero, suc, ◌+◌, ◌*◌, ◌/◌, ◌%◌, ◌^◌, ◌<◌, ◌≤◌, List, [], ◌∷◌, map, length, get_or, set, replicate, Bool, true, false, not, cond, eqb, refl, sym, ap, ap₂, subst, ◌∙◌, arith, ⊎_elim, bit_xor, Option, Some, None, get_or-set_same, get_or-set_other, length-set}
+use Rattle.std.proofs.Common.{take, drop, ◌++◌, ◌≡◌, ℕ, zero, suc, ◌+◌, ◌*◌, ◌/◌, ◌%◌, ◌^◌, ◌<◌, ◌≤◌, List, [], ◌∷◌, map, length, get_or, set, replicate, Bool, true, false, not, cond, eqb, refl, sym, ap, subst, ◌∙◌, arith, ⊎_elim, bit_xor, Option, Some, None, get_or-set_same, get_or-set_other, length-set}
 use Rattle.std.specs.List.{range_with_len}
 use Rattle.std.proofs.Math.Seq.{take-append_seam}
 use Rattle.std.specs.Option.{IfNone, IfSome}
@@ -127,13 +127,6 @@ first_one_none (false ∷ row) none =
 -- ---- words that hold a row, seen as the row
 pub past_too : (words : List ℕ) → ((k : ℕ) → k < length words → get_or words k 0 ≡ 0) → (k : ℕ) → get_or words k 0 ≡ 0
 past_too words zeros k = ⊎_elim (λ (h : k < length words). zeros k h) (λ (h : length words ≤ k). get_or_past words k 0 h) (cases_lt k (length words))
-
-pub zero_words : (n : ℕ) (words : List ℕ) → length words ≡ n → ((k : ℕ) → k < n → get_or words k 0 ≡ 0) → words ≡ replicate n 0
-zero_words zero [] long zeros = refl
-zero_words zero (w ∷ words) long zeros = absurd (omega (arith, long))
-zero_words (suc n) [] long zeros = absurd (omega (arith, long))
-zero_words (suc n) (w ∷ words) long zeros =
-    ap₂ (λ v l. v ∷ l) (zeros 0 (omega arith)) (zero_words n words (omega (arith, long)) (λ k h. zeros (suc k) (omega (arith, h))))
 
 pub zeros_everywhere : (m k : ℕ) → get_or {A = ℕ} (replicate m 0) k 0 ≡ 0
 zeros_everywhere m = past_too (replicate m 0) (λ k h. get_or-replicate m k 0 0 (omega (arith, length-replicate {A = ℕ} m 0)))

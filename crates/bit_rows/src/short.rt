@@ -28,17 +28,6 @@ pub(crate) fn clear_words(words: &mut [u64])
             words[0] = 0;
             words[1] = 0;
         }
-        _ => clear_many(words),
-    }
-}
-
-// A plain loop, which is compiled to one call that fills memory.
-#[inline(always)]
-fn clear_many(words: &mut [u64])
-    ensures after { words.new ≡ replicate (length words.old) 0 }
-    ensures len { length words.new ≡ length words.old }
-{
-    for i in 0..words.len() {
-        words[i] = 0;
+        _ => words.fill(0),
     }
 }
