@@ -11,6 +11,9 @@ from program import PROGRAM, SECONDS, ProgramTest, bits, file_of, named
 
 MEGABYTE = 1 << 20
 
+# 10,000 detectors of a qubit.
+SEEN = "REPEAT 10000 {\n    M 0\n    DETECTOR rec[-1]\n}\n"
+
 
 class Costs(ProgramTest):
     """Texts of few lines that ask for much, within limits on the processor's time and on memory."""
@@ -48,6 +51,36 @@ class Costs(ProgramTest):
         circuit = "REPEAT 100000 {\n" + turn + "}\n"
         output = "".join(f"{name} D{k}\n" for name in ("error(0.01)", "detector") for k in range(100_000))
         self.check_within(2, 40, ["analyze"], circuit, output)
+
+    def test_many_blocks_of_two_turns(self):
+        """16,000 blocks, each of which repeats all before it. A turn is looked at no more often than it pays."""
+        turn = "    X_ERROR(0.001) 0 1\n    CX 0 2 1 2\n    MR(0.01) 2\n    DETECTOR rec[-1] rec[-2]\n"
+        blocks = ("REPEAT 2 {\n" + turn + "}\n") * 16_000
+        lines = [f"error(0.001) D{k}\nerror(0.001) D{k} L0\nerror(0.01) D{k} D{k + 1}\n" for k in range(32_000)]
+        lines[-1] = lines[-1].replace(" D32000", "")
+        output = "".join(lines) + "".join(f"detector D{k}\n" for k in range(32_000)) + "logical_observable L0\n"
+        self.check_within(2, 24, ["analyze"], "MR 2\n" + blocks + "M 1\nOBSERVABLE_INCLUDE(0) rec[-1]\n", output)
+
+    def test_detectors_of_many_blocks_of_two_turns(self):
+        """The same without faults: no target is random, which is found on the same way back."""
+        turn = "    CX 0 2 1 2\n    MR 2\n    DETECTOR rec[-1] rec[-2]\n"
+        circuit = "MR 2\n" + ("REPEAT 2 {\n" + turn + "}\n") * 16_000
+        self.check_within(2, 24, ["detect", "--shots", "1"], circuit, "0" * 32_000 + "\n")
+
+    def test_long_words_at_short_blocks(self):
+        """400 blocks before words of 10,000 detectors at 100 qubits: these aren't copied at each."""
+        blocks = "REPEAT 2 {\n    S 0\n}\n" * 400
+        copies = "CX" + "".join(f" {k} 0" for k in range(1, 100)) + "\n"
+        output = "".join(f"detector D{k}\n" for k in range(10_000))
+        self.check_within(1, 40, ["analyze"], blocks + copies + SEEN, output)
+
+    def test_long_words_at_a_long_text(self):
+        """Each of 1,000 faults flips 10,000 detectors. The words at a place take 40 MB, so few are kept, for parts of as much text."""
+        faults = "X_ERROR(0.001)" + "".join(f" {k}" for k in range(1000)) + "\n"
+        copies = "CX" + "".join(f" {k} 0" for k in range(1, 1000)) + "\n"
+        line = "error(0.001)" + named("D", range(10_000)) + "\n"
+        output = line * 1000 + "".join(f"detector D{k}\n" for k in range(10_000))
+        self.check_within(3, 240, ["analyze"], faults + copies + SEEN, output)
 
     def test_turns_of_a_fault_of_4096_letters(self):
         """A fault's word is put in order in its length: 300 lines of 23,000 bytes."""
