@@ -1,6 +1,8 @@
 //! What a command line asks for, done from a runtime's standard input to its standard output.
 use command_line::{Asked, asked_by};
 use engine::{Order, exit_status, serve};
+use std::alloc::{AllocError, Global};
+use std::env::Args;
 use std::rt::Env;
 use std::{env, io};
 use step_model::{ReaderSource, WriterSink};
@@ -17,7 +19,7 @@ const REFUSED: u8 = 2;
 /// observable.
 pub fn respond<R: Env + Input + Print + AllocGlobal>(rt: &R) -> u8 {
     let words: Vec<String> = match env::args(rt) {
-        Ok(words) => match words.collect(rt.alloc()) {
+        Ok(words) => match listed(rt.alloc(), words) {
             Ok(words) => words,
             Err(_) => return FAILED,
         },
@@ -25,6 +27,15 @@ pub fn respond<R: Env + Input + Print + AllocGlobal>(rt: &R) -> u8 {
         Err(_) => return refuse_line(rt),
     };
     obey(rt, &asked_by(rt.alloc(), words.as_slice()))
+}
+
+/// The words as a list. Each is pushed where there is room for all: `collect` would ask again where that is refused.
+fn listed(alloc: Global, words: Args) -> Result<Vec<String>, AllocError> {
+    let mut list = Vec::with_capacity(alloc, words.len())?;
+    for word in words {
+        list.push(word)?;
+    }
+    Ok(list)
 }
 
 fn obey<R: Input + Print + AllocGlobal>(rt: &R, asked: &Asked<'_>) -> u8 {

@@ -16,12 +16,11 @@ struct Outcome {
     is_whole: bool,
 }
 
-/// What comes of a row of which one growth is refused: that growth is never asked for, or all is done without it, or memory
-/// is told to have run out.
+/// What comes of a row of which one growth is refused: that growth is never asked for, or memory is told to have run out. That all
+/// is done without it is wrong.
 #[derive(Clone, Copy)]
 enum Growth {
     Unasked,
-    Spared,
     Told,
     Wrong,
 }
@@ -44,36 +43,29 @@ fn growth_of(alloc: Global, memory: &Scarce<Global>, row: &Row, growth: u64) -> 
     let outcome = outcome_of(alloc, memory, row);
     let refused = memory.refusals() == 1;
     let done = outcome.end == Ok(row.status) && outcome.is_whole;
-    let told = refused && outcome.end == Err(Fault::MEMORY) && outcome.is_empty;
+    let told = outcome.end == Err(Fault::MEMORY) && outcome.is_empty;
     if memory.held() != 0 {
         Growth::Wrong
-    } else if told {
+    } else if refused && told {
         Growth::Told
-    } else if !done {
-        Growth::Wrong
-    } else if refused {
-        Growth::Spared
-    } else {
+    } else if !refused && done {
         Growth::Unasked
+    } else {
+        Growth::Wrong
     }
 }
 
-/// The first growth at which a row goes wrong, each being refused in turn; behind the last, where their numbers are.
+/// The first growth at which a row goes wrong, each being refused in turn; behind the last, where there are too few.
 fn wrong_growth(alloc: Global, row: &Row) -> Option<u64> {
     let memory = Scarce::new(alloc);
     wrong_growth_in(alloc, &memory, row)
 }
 
 fn wrong_growth_in(alloc: Global, memory: &Scarce<Global>, row: &Row) -> Option<u64> {
-    let mut spared = 0u64;
     for growth in 1..MOST {
         match growth_of(alloc, memory, row, growth) {
-            Growth::Unasked => {
-                // The text is read, and something is made of it.
-                let is_right = 2 < growth && spared == row.spared;
-                return if is_right { None } else { Some(growth) };
-            }
-            Growth::Spared => spared = spared.saturating_add(1),
+            // The text is read, and something is made of it.
+            Growth::Unasked => return if 2 < growth { None } else { Some(growth) },
             Growth::Told => {}
             Growth::Wrong => return Some(growth),
         }
