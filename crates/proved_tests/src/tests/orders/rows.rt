@@ -92,11 +92,11 @@ REPEAT 16 {
 }
 ";
 
-/// A hundred detectors of one record, whose letter 6,000 gates go over: too many letters for it to be found out that no detector is
+/// A hundred detectors of one record, whose letter 4,000 gates go over: too many letters for it to be found out that no detector is
 /// random. One turn of an outer block, so that turns of the inner one aren't gone over at once.
 const LONG: &str = "\
 REPEAT 1 {
-    REPEAT 6000 {
+    REPEAT 4000 {
         H 0
     }
     X_ERROR(1) 0
@@ -343,12 +343,12 @@ coins 25
     },
     // Beside a reference run.
     Row {
-        order: Order::Detect { shots: 70, seed: 6 },
+        order: Order::Detect { shots: 11, seed: 6 },
         text: LONG,
         output: "\
 1111111111111111111111111111111111111111111111111111111111111111111111111111111111111111111111111111
 ",
-        times: 70,
+        times: 11,
         status: Status::Done,
     },
     Row {
