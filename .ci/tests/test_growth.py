@@ -50,16 +50,16 @@ class Time(ProgramTest):
 
     def test_a_long_line_of_a_model(self):
         """Of detectors that each stand once."""
-        self.check_linear(["predict", "--lines", "0"], lambda count: f"error(0.1){named('D', range(count))}\n", 200_000)
+        self.check_linear(["predict", "--lines", "0"], lambda count: f"error(0.1){named('D', range(count))}\n", 100_000)
 
     def test_turns_that_do_not_repeat(self):
         """The length of words that each turn moves on doesn't matter: they aren't copied at each turn to be compared."""
-        short, long = (seconds_for(["analyze"], turning_words(100_000, 16, detectors, "")) for detectors in (10, 1000))
+        short, long = (seconds_for(["analyze"], turning_words(30_000, 16, detectors, "")) for detectors in (10, 1000))
         self.assertLess(long, 4 * short)
 
     def test_whether_something_is_random_is_asked_in_the_time_of_a_run(self):
         """Gates that each merge words of 250,000 detectors: these aren't taken back over all of them before a shot is drawn."""
-        circuit = "H 0\nCX 0 1\n" + "CX 1 2\n" * 20_000 + "M 2\nREPEAT 250000 {\n    DETECTOR rec[-1]\n}\n"
+        circuit = "H 0\nCX 0 1\n" + "CX 1 2\n" * 10_000 + "M 2\nREPEAT 250000 {\n    DETECTOR rec[-1]\n}\n"
         circuit += "X_ERROR(0.1) 3\nM 3\n" + "DETECTOR rec[-1]\n" * 10
         self.assertLess(seconds_for(["detect", "--shots", "1"], circuit), 10 * seconds_for(["run", "--faults", "0"], circuit))
 
