@@ -6,6 +6,7 @@ forgets a limit, or goes over something anew. Each time is the least of a few ru
 program would take that keeps something which this one doesn't.
 """
 import os
+import random
 import resource
 import subprocess
 
@@ -16,19 +17,21 @@ MEGABYTE = 1 << 20
 RUNS = 3
 
 
-def seconds_for(words, content, written_to=os.devnull, status=0):
-    """The least time of a processor that the program takes for this input, and ends with this status."""
-    times = []
+def seconds_once(words, content, written_to=os.devnull, status=0):
+    """The time of a processor that the program takes for this input, and ends with this status."""
     with file_of(content) as source, open(written_to, "wb") as output:
-        for _ in range(RUNS):
-            source.seek(0)
-            process = subprocess.Popen([PROGRAM, *words], stdin=source, stdout=output, stderr=subprocess.DEVNULL)
-            _, ended, used = os.wait4(process.pid, 0)
-            process.returncode = os.waitstatus_to_exitcode(ended)
-            if process.returncode != status:
-                raise AssertionError(f"{words} ended with status {process.returncode}, not {status}")
-            times.append(used.ru_utime + used.ru_stime)
-    return min(times)
+        process = subprocess.Popen([PROGRAM, *words], stdin=source, stdout=output, stderr=subprocess.DEVNULL)
+        _, ended, used = os.wait4(process.pid, 0)
+    process.returncode = os.waitstatus_to_exitcode(ended)
+    if process.returncode != status:
+        raise AssertionError(f"{words} ended with status {process.returncode}, not {status}")
+    return used.ru_utime + used.ru_stime
+
+
+def least_seconds(*asked):
+    """The least time for each of these, which come by turns, so that what else the machine does meets all of them."""
+    times = [[seconds_once(*each) for each in asked] for _ in range(RUNS)]
+    return [min(each) for each in zip(*times)]
 
 
 def turning_words(turns, qubits, detectors, line):
@@ -38,10 +41,20 @@ def turning_words(turns, qubits, detectors, line):
     return circuit + "".join(f"REPEAT {detectors} {{\n    DETECTOR rec[-{q + 1}]\n}}\n" for q in range(qubits))
 
 
+def layers(qubits, count):
+    """Layers of gates drawn by a fixed seed, one on each qubit and then one on each pair of a matching."""
+    drawn = random.Random(2)
+    text = ""
+    for _ in range(count):
+        text += "".join(f"{drawn.choice(('H', 'S', 'SQRT_X', 'C_XYZ'))} {q}\n" for q in range(qubits))
+        text += "CX" + named("", drawn.sample(range(qubits), qubits)) + "\n"
+    return text
+
+
 class Time(ProgramTest):
     def check_linear(self, words, text_of, size):
         """Four times as much takes less than eight times as long; where it is gone over anew, sixteen."""
-        some, more = (seconds_for(words, text_of(n)) for n in (size, 4 * size))
+        some, more = least_seconds((words, text_of(size)), (words, text_of(4 * size)))
         self.assertLess(more, 8 * some)
 
     def test_parts_of_a_text_that_is_not_held(self):
@@ -54,14 +67,16 @@ class Time(ProgramTest):
 
     def test_turns_that_do_not_repeat(self):
         """The length of words that each turn moves on doesn't matter: they aren't copied at each turn to be compared."""
-        short, long = (seconds_for(["analyze"], turning_words(30_000, 16, detectors, "")) for detectors in (10, 1000))
+        texts = [turning_words(30_000, 16, detectors, "") for detectors in (10, 1000)]
+        short, long = least_seconds(*((["analyze"], text) for text in texts))
         self.assertLess(long, 4 * short)
 
     def test_whether_something_is_random_is_asked_in_the_time_of_a_run(self):
         """Gates that each merge words of 250,000 detectors: these aren't taken back over all of them before a shot is drawn."""
         circuit = "H 0\nCX 0 1\n" + "CX 1 2\n" * 10_000 + "M 2\nREPEAT 250000 {\n    DETECTOR rec[-1]\n}\n"
         circuit += "X_ERROR(0.1) 3\nM 3\n" + "DETECTOR rec[-1]\n" * 10
-        self.assertLess(seconds_for(["detect", "--shots", "1"], circuit), 10 * seconds_for(["run", "--faults", "0"], circuit))
+        drawn, run = least_seconds((["detect", "--shots", "1"], circuit), (["run", "--faults", "0"], circuit))
+        self.assertLess(drawn, 10 * run)
 
     def test_shots_for_a_device_that_is_full(self):
         """No more are drawn once the first ones couldn't be written."""
@@ -69,9 +84,16 @@ class Time(ProgramTest):
         circuit = f"X_ERROR(0.1){qubits}\nM{qubits}\n" + "".join(f"DETECTOR rec[-{k}]\n" for k in range(1, 1001))
         for order in "sample", "detect":
             with self.subTest(order=order):
-                written = seconds_for([order, "--shots", "20000"], circuit)
-                refused = seconds_for([order, "--shots", "20000"], circuit, "/dev/full", 1)
+                words = [order, "--shots", "20000"]
+                written, refused = least_seconds((words, circuit), (words, circuit, "/dev/full", 1))
                 self.assertLess(4 * refused, written)
+
+    def test_measurements_that_follow_one_another(self):
+        """In a dense state of many qubits one pass over the rows does several, and between gates each does its own."""
+        state, qubits = layers(4096, 8), range(600)
+        apart = "".join(f"M {q}\nI 0\n" for q in qubits)
+        together, one_by_one = least_seconds((["run"], f"{state}M{named('', qubits)}\n"), (["run"], state + apart))
+        self.assertLess(1.3 * together, one_by_one)
 
 
 
@@ -116,3 +138,8 @@ class Memory(ProgramTest):
         """40 blocks, with a turn of 200 lines of 1,000 targets each: these would take 32 MB."""
         block = "REPEAT 5 {\n    X_ERROR(0.1)" + " 0" * 200 + "\n    I 0\n}\nR 1\n"
         self.check_within(32, ["analyze"], block * 40 + DETECTORS)
+
+    def test_coordinates_of_detectors(self):
+        """A million detectors of one block, with sixteen coordinates each: those of the first turn are kept."""
+        numbers = ", ".join(["123456789"] * 16)
+        self.check_within(32, ["run", "--faults", ""], f"M 0\nREPEAT 1000000 {{\n    DETECTOR({numbers}) rec[-1]\n}}\n")
