@@ -131,14 +131,6 @@ impl<T: Copy, A: Allocator + Copy> FlatLists<T, A> {
         self.items.truncate(start);
     }
 
-    /// Gives back the memory that the lists don't take.
-    pub fn shrink_to_fit(&mut self)
-        ensures { self.new ≡ self.old }
-    {
-        self.items.shrink_to_fit();
-        self.ends.shrink_to_fit();
-    }
-
     /// The list at an index.
     #[inline(always)]
     pub fn get(&self, index: usize) -> &[T]

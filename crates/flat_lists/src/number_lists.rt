@@ -134,13 +134,6 @@ impl<A: Allocator + Copy> NumberLists<A> {
         Ok(())
     }
 
-    /// Gives back the memory that the kept lists don't take.
-    pub fn shrink_to_fit(&mut self)
-        ensures { self.new ≡ self.old }
-    {
-        self.kept.shrink_to_fit();
-    }
-
     /// The list at an index.
     pub fn get(&self, index: usize) -> ArrayVec<i64, MOST_NUMBERS>
         requires { index < length self.now }

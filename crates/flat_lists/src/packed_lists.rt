@@ -73,13 +73,6 @@ impl<A: Allocator + Copy> PackedLists<A> {
         self.lists.push(self.room.as_slice())
     }
 
-    /// Gives back the memory that the lists don't take.
-    pub(crate) fn shrink_to_fit(&mut self)
-        ensures { self.new ≡ self.old }
-    {
-        self.lists.shrink_to_fit();
-    }
-
     /// Puts the list at an index in place of what was there.
     pub(crate) fn put(&self, index: usize, list: &mut ArrayVec<i64, MOST_NUMBERS>)
         requires { index < length self.now }
