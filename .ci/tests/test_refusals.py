@@ -76,6 +76,26 @@ OF_A_LINE = [
     ("REPEAT {", "16", "19"),
 ]
 
+# A second tag, or one behind the arguments, begins a target: the line has no arguments behind it, and the targets of some lines
+# aren't read.
+SECOND_TAGS = [
+    ("H[a][b] 0", "15"),
+    ("REPEAT[a][b] 2 {", "15"),
+    ("DETECTOR(1)[b] rec[-1]", "15"),
+    ("TICK[a][b]", "16"),
+    ("SHIFT_COORDS(1)[b]", "16"),
+    ("X_ERROR[a][b](0.1) 0", "13"),
+    ("H(0.1)[b] 0", "13"),
+    ("H[a][{] 0", "18"),
+]
+
+# The same in an error model.
+SECOND_TAGS_OF_A_MODEL = [
+    ("detector[a][b] D0", "42"),
+    ("shift_detectors(1)[b] 1", "42"),
+    ("error[a][b](0.1) D0", "41"),
+]
+
 # A line inside 32 open blocks, and its refusal. To each but the last that of its depth applies too.
 DEEPEST = [
     ("REPEAT 1 { é", "10"),
@@ -122,6 +142,10 @@ class Meetings(ProgramTest):
 
     def test_refusals_in_the_deepest_block(self):
         self.check_refused(("REPEAT 1 {\n" * 32 + last, f"refused {number} line 33\n") for last, number in DEEPEST)
+
+    def test_second_tags(self):
+        self.check_refused((text, f"refused {number} line 1\n") for text, number in SECOND_TAGS)
+        self.check_rows((["predict"], text, f"refused {number} line 1\n", 2) for text, number in SECOND_TAGS_OF_A_MODEL)
 
     def test_refusals_of_a_text(self):
         self.check_refused(OF_A_TEXT)
