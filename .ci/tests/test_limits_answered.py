@@ -198,12 +198,13 @@ class Models(Answered):
         self.check_model("0", "shift_detectors 1\n" + "error(0.000000000000001) D0 L0\n" * lines, "011")
 
     def test_2_to_the_20_lines(self):
-        """Of each kind, after one that is named."""
+        """Of each kind, after one that is named: also behind a shift, where error lines and declarations are kept too."""
         lines = (1 << 20) + 1
-        for line in "error(0.1) D1\n", "detector D1\n", "detector(3) D1\n", "shift_detectors 0\n", "logical_observable L0\n":
-            model = "error(0.1) D0\n" + line * lines
-            with self.subTest(line=line):
-                self.check_model("0", model, {"s": "1"}.get(line[0], "10"))
+        rows = {"error(0.1) D1\n": "10", "detector D1\n": "10", "detector(3) D1\n": "10", "logical_observable L0\n": "10"}
+        for line, output in {**rows, "shift_detectors 0\n": "1"}.items():
+            for before in "", "shift_detectors 0\n":
+                with self.subTest(line=line, before=before):
+                    self.check_model("0", "error(0.1) D0\n" + before + line * lines, output)
 
     def test_2_to_the_16_blocks(self):
         """Each of three turns: an even number of lines flips D0, and the last of them is named."""
