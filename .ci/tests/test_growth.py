@@ -14,7 +14,9 @@ from program import PROGRAM, SECONDS, ProgramTest, file_of, named
 
 MEGABYTE = 1 << 20
 
-RUNS = 3
+RUNS = 4
+
+DETECTORS = "REPEAT 1000 {\n    M 0\n    DETECTOR rec[-1]\n}\n"
 
 
 def seconds_once(words, content, written_to=os.devnull, status=0):
@@ -49,6 +51,24 @@ def layers(qubits, count):
         text += "".join(f"{drawn.choice(('H', 'S', 'SQRT_X', 'C_XYZ'))} {q}\n" for q in range(qubits))
         text += "CX" + named("", drawn.sample(range(qubits), qubits)) + "\n"
     return text
+
+
+def ends_within(megabytes, words, content):
+    """The status with which the program ends where it may have so much memory for data. What it writes isn't kept."""
+
+    def set_limit():
+        resource.setrlimit(resource.RLIMIT_DATA, (megabytes * MEGABYTE, megabytes * MEGABYTE))
+
+    with file_of(content) as source:
+        ended = subprocess.run(
+            [PROGRAM, *words],
+            stdin=source,
+            stdout=subprocess.DEVNULL,
+            stderr=subprocess.DEVNULL,
+            timeout=SECONDS,
+            preexec_fn=set_limit,
+        )
+    return ended.returncode
 
 
 class Time(ProgramTest):
@@ -93,33 +113,11 @@ class Time(ProgramTest):
         state, qubits = layers(4096, 8), range(600)
         apart = "".join(f"M {q}\nI 0\n" for q in qubits)
         together, one_by_one = least_seconds((["run"], f"{state}M{named('', qubits)}\n"), (["run"], state + apart))
-        self.assertLess(1.3 * together, one_by_one)
-
-
-
-def ends_within(megabytes, words, content):
-    """The status with which the program ends where it may have so much memory for data. What it writes isn't kept."""
-
-    def set_limit():
-        resource.setrlimit(resource.RLIMIT_DATA, (megabytes * MEGABYTE, megabytes * MEGABYTE))
-
-    with file_of(content) as source:
-        ended = subprocess.run(
-            [PROGRAM, *words],
-            stdin=source,
-            stdout=subprocess.DEVNULL,
-            stderr=subprocess.DEVNULL,
-            timeout=SECONDS,
-            preexec_fn=set_limit,
-        )
-    return ended.returncode
-
-
-DETECTORS = "REPEAT 1000 {\n    M 0\n    DETECTOR rec[-1]\n}\n"
+        self.assertLess(1.25 * together, one_by_one)
 
 
 class Memory(ProgramTest):
-    """Each text is answered within a limit that one third of what else would be kept passes, at least."""
+    """Each text is answered within a limit above what the program takes, which what it doesn't keep would pass."""
 
     def check_within(self, megabytes, words, content):
         self.assertEqual(ends_within(megabytes, words, content), 0)
@@ -140,6 +138,6 @@ class Memory(ProgramTest):
         self.check_within(32, ["analyze"], block * 40 + DETECTORS)
 
     def test_coordinates_of_detectors(self):
-        """A million detectors of one block, with sixteen coordinates each: those of the first turn are kept."""
+        """A million detectors of one block, with sixteen coordinates each: no room is taken but for those of the first turn."""
         numbers = ", ".join(["123456789"] * 16)
-        self.check_within(32, ["run", "--faults", ""], f"M 0\nREPEAT 1000000 {{\n    DETECTOR({numbers}) rec[-1]\n}}\n")
+        self.check_within(12, ["run", "--coins", "0"], f"M 0\nREPEAT 1000000 {{\n    DETECTOR({numbers}) rec[-1]\n}}\n")
