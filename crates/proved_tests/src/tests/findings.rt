@@ -37,7 +37,10 @@ pub(super) enum Finding {
 }
 
 /// What both trackers find in a program.
-pub(super) fn finding(alloc: Global, program: &Program<'_, Global>) -> Result<Finding, Fault> {
+pub(super) fn found_by_both(
+    alloc: Global,
+    program: &Program<'_, Global>,
+) -> Result<Finding, Fault> {
     let dense = by_dense(alloc, program)?;
     compare_with(alloc, program, &dense)
 }

@@ -1,9 +1,9 @@
 //! Whole orders over memory, worked by hand: what is asked of a text, what is written, and the exit status.
 mod alike;
+mod both_trackers;
 mod drawn;
 mod nested;
 mod rows;
-mod trackers;
 
 use engine::{Order, exit_status, serve};
 use rows::{BLOCKS, COLLAPSES, FAULTS, FEEDBACK, LISTS, PREDICTIONS, PRODUCTS, REFUSALS, SHOTS};

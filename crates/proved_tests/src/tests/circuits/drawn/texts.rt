@@ -1,9 +1,9 @@
 //! Circuits that are drawn from a generator.
 //!
-//! Each qubit begins with a letter of its own, which the state holds with some sign. The gates of a turn are undone by its end, so
-//! that products of these letters are decided, and what is measured of them makes detectors that aren't random; faults stand
-//! among the gates. Between blocks a qubit is measured in any letter, fed back, and reset to its own. In a loose circuit it may
-//! stay as it is, or be fed back to another qubit: its detectors may be random.
+//! Each qubit begins with a letter of its own, which the state holds with some sign. A turn undoes its gates, among which faults
+//! stand, so that products of these letters are decided: checks measure them, and their detectors aren't random. Before each block
+//! a qubit is measured in any letter, which is fed back to it, and reset to its own. In a loose circuit it may stay as it is, and
+//! another qubit is fed: there detectors may be random.
 use super::words::{below, inversion, one_of, put, word_at};
 use rand_core::SeedableRng;
 use rand_core::utils::NextWord;
@@ -37,9 +37,9 @@ const INVERSES: Names = Names {
 #[derive(Clone, Copy)]
 struct Plan {
     qubits: u64,
-    /// How many products are measured together.
+    /// How many checks are made together, each a measurement.
     checks: u64,
-    /// The seed of the qubits' letters and of the products, and of the gates that are undone.
+    /// The seed of the qubits' letters and of the checks.
     seed: u64,
     is_loose: bool,
 }
@@ -182,8 +182,8 @@ fn put_product(
 fn put_measurement(
     text: &mut String<Global>,
     draws: &mut Pcg64,
-    letter: &str,
-    qubit: &str,
+    letter: &'static str,
+    qubit: &'static str,
 ) -> Result<(), AllocError> {
     let (name, chance) = (one_of(draws, "M MR"), one_of(draws, "() (0.5) (.25)"));
     put(
@@ -232,8 +232,8 @@ fn put_target(
 fn put_feedback(
     text: &mut String<Global>,
     draws: &mut Pcg64,
-    back: &str,
-    qubit: &str,
+    back: &'static str,
+    qubit: &'static str,
 ) -> Result<(), AllocError> {
     if below(draws, 4) == 0 {
         put(text, &["CZ ", qubit, " rec[-", back, "]\n"])

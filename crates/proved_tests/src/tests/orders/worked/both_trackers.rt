@@ -1,6 +1,6 @@
 //! The rows that are analysed, by both trackers, which find the same: a model where the row has one, and else a random target.
 use super::{TABLES, parts_of};
-use crate::tests::findings::{Finding, finding};
+use crate::tests::findings::{Finding, found_by_both};
 use std::alloc::Global;
 use std::process::Abort;
 use step_model::Fault;
@@ -18,7 +18,7 @@ fn told_of(orders: &str, status: &str) -> Option<Finding> {
 
 fn is_found(alloc: Global, text: &[u8], told: Finding) -> Result<bool, Fault> {
     let program = read_program(alloc, text)?;
-    Ok(finding(alloc, &program)? == told)
+    Ok(found_by_both(alloc, &program)? == told)
 }
 
 fn text_holds(alloc: Global, text: &str, told: Finding) -> Result<bool, Fault> {
