@@ -90,13 +90,27 @@ fn power_of_places(n: usize) -> u8 {
     power % 4
 }
 
-fn has_power_of_places(alloc: Global, n: usize) -> Result<bool, AllocError> {
-    let [xa, za, xb, zb] = WORDS;
-    let xa = row_of(alloc, n, xa)?;
-    let za = row_of(alloc, n, za)?;
+/// Whether the first word's rows times the second word bring the power of their places.
+fn have_power_of_places(
+    alloc: Global,
+    n: usize,
+    xa: &BitRow<Global>,
+    za: &BitRow<Global>,
+) -> Result<bool, AllocError>
+    requires x { length xa.now ≡ n }
+    requires z { length za.now ≡ n }
+{
+    let [_, _, xb, zb] = WORDS;
     let xb = row_of(alloc, n, xb)?;
     let zb = row_of(alloc, n, zb)?;
-    Ok(BitRow::phase_step(&xa, &za, &xb, &zb) == power_of_places(n))
+    Ok(BitRow::phase_step(xa, za, &xb, &zb) == power_of_places(n))
+}
+
+fn has_power_of_places(alloc: Global, n: usize) -> Result<bool, AllocError> {
+    let [xa, za, _, _] = WORDS;
+    let xa = row_of(alloc, n, xa)?;
+    let za = row_of(alloc, n, za)?;
+    have_power_of_places(alloc, n, &xa, &za)
 }
 
 #[test]
