@@ -137,6 +137,14 @@ class Memory(ProgramTest):
         block = "REPEAT 5 {\n    X_ERROR(0.1)" + " 0" * 200 + "\n    I 0\n}\nR 1\n"
         self.check_within(32, ["analyze"], block * 40 + DETECTORS)
 
+    def test_words_that_collapses_replace(self):
+        # Two products in turn on all qubits but one of the last two, and after each a measurement that is random: what it replaces is the
+        # product, by whose length and first letters words are looked up, so that neither is found again. Three million words of 31
+        # letters take some 200 MB.
+        products = ["*".join(f"X{q}" for q in range(32) if q != left_out) for left_out in (31, 30)]
+        turn = "".join(f"    MPP {product}\n    M 0\n" for product in products)
+        self.check_within(260, ["sample", "--shots", "1"], f"REPEAT 1500000 {{\n{turn}}}\n")
+
     def test_coordinates_of_detectors(self):
         """A million detectors of one block, with sixteen coordinates each: no room is taken but for those of the first turn."""
         numbers = ", ".join(["123456789"] * 16)
