@@ -179,24 +179,30 @@ class Case(unittest.TestCase):
     def end(self, started):
         """Ends a call and what it builds, whatever the launcher makes of it."""
         started.kill()
-        if self.builder():
-            os.killpg(self.builder(), signal.SIGKILL)
+        builder = self.builder()
+        if builder:
+            with contextlib.suppress(ProcessLookupError):
+                os.killpg(builder, signal.SIGKILL)
         started.wait()
         started.stdout.close()
         if started.stderr:
             started.stderr.close()
 
     def processes(self):
-        """Yields the group and the command of each process that hasn't ended."""
+        """Yields the parent, the group and the command of each process that hasn't ended."""
         for name in filter(str.isdigit, os.listdir("/proc")):
             with contextlib.suppress(OSError, ValueError):
-                state, _, group = self.read(f"/proc/{name}/stat").rpartition(")")[2].split()[:3]
+                state, parent, group = self.read(f"/proc/{name}/stat").rpartition(")")[2].split()[:3]
                 if state != "Z":
-                    yield int(group), self.read(f"/proc/{name}/cmdline")
+                    yield int(parent), int(group), self.read(f"/proc/{name}/cmdline")
 
     def builder(self):
         """Returns the process group of the build, if there is one."""
-        return next((group for group, command in self.processes() if f"{self.rt}/rt" in command), None)
+        return next((group for _, group, command in self.processes() if f"{self.rt}/rt" in command), None)
+
+    def is_waiting(self, call):
+        """Whether a call waits for another by a process of its own group."""
+        return any(parent == call.pid != group and command.startswith("flock") for parent, group, command in self.processes())
 
     def wait_for(self, condition):
         until = time.monotonic() + 20

@@ -315,7 +315,7 @@ class Interrupted(Case):
                 self.assertEqual(started.returncode, 130)
                 self.assertEqual(said, b"")
                 self.assertIn(b"interrupted", told)
-                self.wait_for(lambda: builder not in [group for group, _ in self.processes()])
+                self.wait_for(lambda: builder not in [group for _, group, _ in self.processes()])
                 self.assert_no_copy()
 
     def test_the_call_behind_an_interrupt_builds(self):

@@ -155,6 +155,7 @@ class Interrupted(Case):
         self.wait_for(lambda: os.path.exists(f"{self.rt}/sleeping"))
         second = self.start_call()
         self.assertIn(b"waiting", second.stderr.readline())
+        self.wait_for(lambda: self.is_waiting(second))
         os.killpg(second.pid, signal.SIGINT)
         self.assertEqual(second.wait(timeout=20), 130)
         self.assertEqual(second.stderr.read(), b"stabsim: interrupted\n")
