@@ -6,7 +6,6 @@ forgets a limit, or goes over something anew. Each time is the least of a few ru
 program would take that keeps something which this one doesn't.
 """
 import os
-import random
 import resource
 import subprocess
 
@@ -41,16 +40,6 @@ def turning_words(turns, qubits, detectors, line):
     swaps = "SWAP" + named("", (q + k for q in range(qubits - 1) for k in (0, 1)))
     circuit = f"REPEAT {turns} {{\n{line}    {swaps}\n}}\nM{named('', range(qubits))}\n"
     return circuit + "".join(f"REPEAT {detectors} {{\n    DETECTOR rec[-{q + 1}]\n}}\n" for q in range(qubits))
-
-
-def layers(qubits, count):
-    """Layers of gates drawn by a fixed seed, one on each qubit and then one on each pair of a matching."""
-    drawn = random.Random(2)
-    text = ""
-    for _ in range(count):
-        text += "".join(f"{drawn.choice(('H', 'S', 'SQRT_X', 'C_XYZ'))} {q}\n" for q in range(qubits))
-        text += "CX" + named("", drawn.sample(range(qubits), qubits)) + "\n"
-    return text
 
 
 def ends_within(megabytes, words, content):
@@ -107,13 +96,6 @@ class Time(ProgramTest):
                 words = [order, "--shots", "20000"]
                 written, refused = least_seconds((words, circuit), (words, circuit, "/dev/full", 1))
                 self.assertLess(4 * refused, written)
-
-    def test_measurements_that_follow_one_another(self):
-        """In a dense state of many qubits one pass over the rows does several, and between gates each does its own."""
-        state, qubits = layers(4096, 8), range(600)
-        apart = "".join(f"M {q}\nI 0\n" for q in qubits)
-        together, one_by_one = least_seconds((["run"], f"{state}M{named('', qubits)}\n"), (["run"], state + apart))
-        self.assertLess(1.25 * together, one_by_one)
 
 
 class Memory(ProgramTest):
