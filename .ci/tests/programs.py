@@ -11,7 +11,7 @@ from pathlib import Path
 sys.dont_write_bytecode = True  # so that loading a script leaves nothing among the examples
 
 TOP = Path(__file__).resolve().parents[2]
-FROM_STIM = TOP / "examples" / "from_stim.py"
+FROM_STIM = TOP / "tools" / "from_stim.py"
 DECODE = TOP / "examples" / "decode.py"
 
 

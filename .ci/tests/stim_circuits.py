@@ -68,7 +68,7 @@ class Text:
         head = [
             "# A circuit in the form that Stim's generators write.",
             "#",
-            f"#     examples/from_stim.py{option} < examples/stim/{code}_{task}.stim > converted.stim",
+            f"#     tools/from_stim.py{option} < examples/stim/{code}_{task}.stim > converted.stim",
             "#     ./stabsim analyze < converted.stim",
             "#",
             *(f"# {name}: {value}" for name, value in

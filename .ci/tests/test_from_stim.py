@@ -1,4 +1,4 @@
-"""What examples/from_stim.py writes is the same as what it read: channels, gates, and whole circuits, run exactly."""
+"""What tools/from_stim.py writes is the same as what it read: channels, gates, and whole circuits, run exactly."""
 import random
 import re
 import unittest

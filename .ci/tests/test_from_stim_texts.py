@@ -1,4 +1,4 @@
-"""How examples/from_stim.py treats texts: numbers, coordinates, what it keeps, and what it refuses."""
+"""How tools/from_stim.py treats texts: numbers, coordinates, what it keeps, and what it refuses."""
 import random
 import sys
 import unittest

@@ -1,9 +1,9 @@
 #!/usr/bin/env python3
 """Writes a Stim circuit, or an error model that Stim wrote, in the form that stabsim reads.
 
-    examples/from_stim.py < code.stim > converted.stim
-    examples/from_stim.py --scale 2 < code.stim > converted.stim
-    examples/from_stim.py --dem < model.dem > converted.dem
+    tools/from_stim.py < code.stim > converted.stim
+    tools/from_stim.py --scale 2 < code.stim > converted.stim
+    tools/from_stim.py --dem < model.dem > converted.dem
 
 This program is tested and NOT proved. What stabsim says is about the circuit that this program writes: that is the one to
 keep beside the results. docs/FROM_STIM.md has the formulas, and says what can't be converted.
