@@ -1,8 +1,9 @@
--- The letters of successive qubits, block by block, and the buffer that the text of a block is written in.
-use Rattle.std.proofs.Common.{◌≡◌, ℕ, ◌+◌, ◌-◌, ◌<◌, ◌≤◌, List, [], ◌++◌, length, get_or, take, drop, sym, ap, ap₂, ◌∙◌, arith, append-nil, length-drop}
+-- The letters of successive qubits, block by block, and the text of a block in its buffer.
+use Rattle.std.proofs.Common.{◌≡◌, ℕ, ◌+◌, ◌-◌, ◌<◌, ◌≤◌, List, [], ◌∷◌, ◌++◌, length, get_or, take, drop, sym, ap, ◌∙◌, arith, append-nil}
 use Rattle.std.specs.Prelude.{codes, if◌then◌else◌}
 use Rattle.std.proofs.Math.Seq.{take-add, length-take-le}
-use Rattle.std.proofs.lemmas.List.{drop_all, drop_more, drop-drop, take_all}
+use Rattle.std.proofs.lemmas.List.{drop-take, drop_more}
+use Rattle.std.proofs.lemmas.List.Concat.{flat_map-append}
 use Rattle.pauli_word.specs.declared.letter.Letter.{Letter}
 use Rattle.pauli_word.specs.declared.letter.Letter.TheVariants.{I}
 use Rattle.step_model.specs.Listing.{is_I}
@@ -13,14 +14,9 @@ use Rattle.fault_list.proofs.FactorTextLemmas.{drop_star, letter_factors-append,
 abbrev pub letter_of : List Letter → ℕ → Letter
 letter_of letters k = get_or letters k I
 
--- the letter at n, and those from the next one on, are those from n on
-pub starred_from : (q n left : ℕ) (letters : List Letter) → n < length letters → left ≡ n + 1 → (if is_I (letter_of letters n) then [] else codes "*" ++ factor_text (q + n) (letter_of letters n)) ++ starred (letter_factors (q + left) (drop left letters)) ≡ starred (letter_factors (q + n) (drop n letters))
-starred_from q n left letters below next =
-    let there : q + left ≡ q + n + 1 = omega (arith, next) in
-    let here = if is_I (letter_of letters n) then [] else codes "*" ++ factor_text (q + n) (letter_of letters n) in
-    ap₂ (λ i k. here ++ starred (letter_factors i (drop k letters))) there next
-    ∙ (starred-first (q + n) (letter_of letters n) (drop (n + 1) letters)
-    ∙ ap (λ ls. starred (letter_factors (q + n) ls)) (sym (drop_more letters n I below)))
+-- the text of a letter's factor after a star
+abbrev pub factor_text_of : ℕ → Letter → List ℕ
+factor_text_of q a = if is_I a then [] else codes "*" ++ factor_text q a
 
 pub letter_factors-take : (q : ℕ) (letters : List Letter) (done some : ℕ) → done ≤ length letters → letter_factors q (take done letters) ++ letter_factors (q + done) (take some (drop done letters)) ≡ letter_factors q (take (done + some) letters)
 letter_factors-take q letters done some within =
@@ -29,13 +25,22 @@ letter_factors-take q letters done some within =
     ∙ (letter_factors-append q first (take some (drop done letters))
     ∙ ap (letter_factors q) (sym (take-add done some letters)))
 
--- what stands in a buffer from where a text starts that ends where the buffer does
-pub text_written : (buffer old text : List ℕ) (start : ℕ) → length old ≡ 256 → drop start buffer ≡ text ++ drop 256 old → drop start buffer ≡ text
-text_written buffer old text start long h =
-    h ∙ (ap (λ l. text ++ l) (drop_all 256 old (omega (arith, long))) ∙ append-nil text)
+-- those of the letters before one, and then its own
+pub starred_before : (q n : ℕ) (letters : List Letter) → n < length letters → starred (letter_factors q (take n letters)) ++ factor_text_of (q + n) (letter_of letters n) ≡ starred (letter_factors q (take (n + 1) letters))
+starred_before q n letters below =
+    let first = take n letters in
+    let a = letter_of letters n in
+    let one : take 1 (drop n letters) ≡ a ∷ [] = ap (take 1) (drop_more letters n I below) in
+    let own : factor_text_of (q + n) a ≡ starred (letter_factors (q + n) (a ∷ [])) =
+    sym (append-nil (factor_text_of (q + n) a)) ∙ starred-first (q + n) a [] in
+    ap (λ l. starred (letter_factors q first) ++ l) (own ∙ ap (λ ls. starred (letter_factors (q + n) ls)) (sym one))
+    ∙ (sym (flat_map-append (λ f. codes "*" ++ f) (letter_factors q first) (letter_factors (q + n) (take 1 (drop n letters))))
+    ∙ ap starred (letter_factors-take q letters n 1 (omega (arith, below))))
 
-pub rest_of : (buffer : List ℕ) (start : ℕ) → length buffer ≡ 256 → take (256 - start) (drop start buffer) ≡ drop start buffer
-rest_of buffer start long = take_all (256 - start) (drop start buffer) (omega (arith, length-drop start buffer, long))
-
-pub after_star : (buffer : List ℕ) (start : ℕ) (fs : List (List ℕ)) → drop start buffer ≡ starred fs → drop (start + 1) buffer ≡ joined fs
-after_star buffer start fs h = sym (drop-drop 1 start buffer) ∙ (ap (drop 1) h ∙ drop_star fs)
+-- a text without its first star
+pub after_star : (buffer : List ℕ) (end : ℕ) (fs : List (List ℕ)) → 0 < end → take end buffer ≡ starred fs → take (end - 1) (drop 1 buffer) ≡ joined fs
+after_star buffer end fs some h =
+    let next : 1 + (end - 1) ≡ end = omega (arith, some) in
+    sym (drop-take 1 (end - 1) buffer)
+    ∙ (ap (λ n. drop 1 (take n buffer)) next
+    ∙ (ap (drop 1) h ∙ drop_star fs))

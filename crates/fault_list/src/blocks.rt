@@ -1,34 +1,35 @@
-//! The text of the letters of successive qubits. It goes out in blocks, each written into a buffer from its end towards
-//! its start.
-ghost use Rattle.std.specs.Prelude.{◌≡◌, ◌≤◌, ◌+◌, ◌*◌, ◌∷◌, ◌&&◌, ◌++◌, [], codes, decimal, length, drop, if◌then◌else◌};
+//! The text of the letters of successive qubits. It goes out in blocks, each put into a buffer.
+ghost use Rattle.std.specs.Prelude.{◌≡◌, ◌≤◌, ◌+◌, ◌*◌, ◌&&◌, ◌++◌, [], codes, length, take, if◌then◌else◌};
 ghost use Rattle.step_model.specs.Pushed.{Pushes};
 ghost use Rattle.step_model.specs.Listing.{is_I};
 ghost use Rattle.fault_list.specs.FaultLines.{factor_text};
 ghost use Rattle.fault_list.specs.private.FactorTexts.{is_none, joined_on, letter_factors, starred};
-ghost use Rattle.fault_list.specs.private.PutTexts.{PutsBefore};
 
-use crate::letters::{acts, letter_byte};
-use itoa::write_digits;
+use crate::factors::put_starred;
+use crate::letters::acts;
+use crate::qubit_names::QubitNames;
 use pauli_word::Letter;
 use step_model::{Pieces, Sink, Term};
 
-/// How long a buffer for blocks is.
-pub(crate) const ROOM: usize = 256;
+/// How long a buffer for blocks is at least.
+pub(crate) const ROOM: usize = 12400;
 
 /// How many letters a block has at most: of 12 bytes each at most, their text fits the buffer.
-const BLOCK: usize = 16;
+const BLOCK: usize = 1024;
 
 /// Writes the factors of letters at successive qubits, the first of them at `from`, after others where they aren't the
 /// first of their word. It answers whether there is still none.
 pub(crate) fn write_letters<W: Sink>(
     out: &mut Pieces,
     sink: &mut W,
-    buffer: &mut [u8; ROOM],
+    buffer: &mut [u8],
+    names: &QubitNames,
     letters: &[Letter],
     from: u32,
     first: bool,
 ) -> bool
-    requires { from + length letters.now ≤ u32.MAX }
+    requires room { ROOM ≤ length buffer.old }
+    requires fits { from + length letters.now ≤ u32.MAX }
     ensures first { result ≡ (first && is_none (letter_factors from letters.now)) }
     ensures pushed { Pushes W.taken W.failures sink.old sink.new out.old out.new
         (joined_on first (letter_factors from letters.now)) }
@@ -38,109 +39,65 @@ pub(crate) fn write_letters<W: Sink>(
     while done < letters.len() {
         let next = done + BLOCK.min(letters.len() - done);
         let block = &letters[done..next];
-        none = write_block(out, sink, buffer, block, from + done as u32, none);
+        none = write_block(out, sink, buffer, names, block, from + done as u32, none);
         done = next;
     }
     none
 }
 
-// The same of few letters.
+// The same of as many letters as a block has at most.
 fn write_block<W: Sink>(
     out: &mut Pieces,
     sink: &mut W,
-    buffer: &mut [u8; ROOM],
+    buffer: &mut [u8],
+    names: &QubitNames,
     letters: &[Letter],
     from: u32,
     first: bool,
 ) -> bool
+    requires room { ROOM ≤ length buffer.old }
     requires within { from + length letters.now ≤ u32.MAX }
     requires few { length letters.now ≤ BLOCK }
     ensures first { result ≡ (first && is_none (letter_factors from letters.now)) }
     ensures pushed { Pushes W.taken W.failures sink.old sink.new out.old out.new
         (joined_on first (letter_factors from letters.now)) }
 {
-    let start = letters_before(buffer, ROOM, letters, from);
-    if start == ROOM {
+    let end = put_letters(buffer, names, letters, from);
+    if end == 0 {
         return first;
     }
-    let start = if first { start + 1 } else { start };
-    out.push(sink, &buffer[start..]);
+    let start = if first { 1 } else { 0 };
+    out.push(sink, &buffer[start..end]);
     false
 }
 
-// Writes the factors of letters at successive qubits, each after `*`, so that they end where `end` is, and answers where
-// they start.
+// Puts the factors of letters at successive qubits, each after `*`, and answers where they end.
 #[inline(always)]
-fn letters_before(buffer: &mut [u8], end: usize, letters: &[Letter], from: u32) -> usize
-    requires within { end ≤ length buffer.old }
-    requires room { length letters.now * 12 ≤ end }
+fn put_letters(buffer: &mut [u8], names: &QubitNames, letters: &[Letter], from: u32) -> usize
+    requires room { length letters.now * 12 + 6 ≤ length buffer.old }
     requires fits { from + length letters.now ≤ u32.MAX }
-    ensures within { result ≤ end }
-    ensures written { drop result buffer.new
-        ≡ starred (letter_factors from letters.now) ++ drop end buffer.old }
+    ensures within { result ≤ length letters.now * 12 }
+    ensures written { take result buffer.new ≡ starred (letter_factors from letters.now) }
 {
-    let mut left = letters.len();
-    let mut at = end;
-    while left > 0 {
-        left -= 1;
-        at = letter_before(buffer, at, from + left as u32, letters[left]);
+    let mut end = 0;
+    for at in 0..letters.len() {
+        end = put_letter(buffer, end, names, from + at as u32, letters[at]);
     }
-    at
+    end
 }
 
-// The same of one letter.
+// The same of one letter, after what stands before `at`.
 #[inline(always)]
-fn letter_before(buffer: &mut [u8], end: usize, qubit: u32, letter: Letter) -> usize
-    requires within { end ≤ length buffer.old }
-    requires room { 12 ≤ end }
-    ensures { PutsBefore 12 end (if is_I letter then [] else codes "*" ++ factor_text qubit letter)
-        buffer.old buffer.new result }
+fn put_letter(buffer: &mut [u8], at: usize, names: &QubitNames, qubit: u32, letter: Letter) -> usize
+    requires room { at + 18 ≤ length buffer.old }
+    ensures within { result ≤ at + 12 }
+    ensures written { take result buffer.new
+        ≡ take at buffer.old
+        ++ (if is_I letter then [] else codes "*" ++ factor_text qubit letter) }
 {
     if acts(letter) {
-        starred_before(buffer, end, Term { qubit, letter })
+        put_starred(buffer, at, names, Term { qubit, letter })
     } else {
-        end
+        at
     }
-}
-
-// Writes a factor after `*`.
-#[inline(always)]
-fn starred_before(buffer: &mut [u8], end: usize, term: Term) -> usize
-    requires within { end ≤ length buffer.old }
-    requires room { 12 ≤ end }
-    ensures { PutsBefore 12 end (codes "*" ++ factor_text term.qubit term.letter) buffer.old
-        buffer.new result }
-{
-    let at = factor_before(buffer, end, term);
-    byte_before(buffer, at, b'*')
-}
-
-#[inline(always)]
-fn factor_before(buffer: &mut [u8], end: usize, term: Term) -> usize
-    requires within { end ≤ length buffer.old }
-    requires room { 11 ≤ end }
-    ensures { PutsBefore 11 end (factor_text term.qubit term.letter) buffer.old buffer.new result }
-{
-    let at = number_before(buffer, end, term.qubit);
-    byte_before(buffer, at, letter_byte(term.letter))
-}
-
-#[inline(always)]
-fn number_before(buffer: &mut [u8], end: usize, number: u32) -> usize
-    requires within { end ≤ length buffer.old }
-    requires room { 10 ≤ end }
-    ensures { PutsBefore 10 end (decimal number) buffer.old buffer.new result }
-{
-    write_digits(number as u64, buffer, end)
-}
-
-#[inline(always)]
-fn byte_before(buffer: &mut [u8], end: usize, byte: u8) -> usize
-    requires within { end ≤ length buffer.old }
-    requires room { 1 ≤ end }
-    ensures start { result + 1 ≡ end }
-    ensures written { drop result buffer.new ≡ byte ∷ drop end buffer.old }
-{
-    buffer[end - 1] = byte;
-    end - 1
 }

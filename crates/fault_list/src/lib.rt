@@ -3,6 +3,7 @@
 
 mod blocks;
 mod counter;
+mod factors;
 mod letters;
 mod probability;
 mod put;

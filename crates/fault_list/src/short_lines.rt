@@ -8,10 +8,11 @@ ghost use Rattle.fault_list.specs.FaultLines.{effect_text, factor_text, fault_li
 ghost use Rattle.fault_list.specs.private.PutTexts.{Puts};
 ghost use Rattle.fault_list.specs.private.TermLetters.{is_ordered, starred_factors};
 
-use crate::counter::{Counter, digits_of};
-use crate::letters::{acts, letter_byte};
+use crate::counter::Counter;
+use crate::factors::{put_factor, put_starred};
+use crate::letters::acts;
 use crate::probability::Probability;
-use crate::put::{put_byte, put_first, put_text};
+use crate::put::{put_byte, put_text};
 use crate::qubit_names::QubitNames;
 use programs::{FoundFault, Program};
 use std::alloc::Allocator;
@@ -32,7 +33,7 @@ pub(crate) struct KeptTexts<'t, 'a> {
     number: Counter,
     probability: Probability<'t, 'a>,
     record: Counter,
-    names: QubitNames,
+    pub(crate) names: QubitNames,
 }
 
 impl<'t, 'a> KeptTexts<'t, 'a> {
@@ -171,50 +172,4 @@ fn put_factors(buffer: &mut [u8], at: usize, names: &QubitNames, terms: &[Term])
         end = put_starred(buffer, end, names, *term);
     }
     end
-}
-
-// Puts a factor after `*`.
-#[inline(always)]
-fn put_starred(buffer: &mut [u8], at: usize, names: &QubitNames, term: Term) -> usize
-    requires room { at + 18 ≤ length buffer.old }
-    ensures within { result ≤ at + 12 }
-    ensures written { take result buffer.new
-        ≡ take at buffer.old ++ (codes "*" ++ factor_text term.qubit term.letter) }
-{
-    let end = put_byte(buffer, at, b'*');
-    put_factor(buffer, end, names, term)
-}
-
-#[inline(always)]
-fn put_factor(buffer: &mut [u8], at: usize, names: &QubitNames, term: Term) -> usize
-    requires room { at + 17 ≤ length buffer.old }
-    ensures within { result ≤ at + 11 }
-    ensures written { take result buffer.new
-        ≡ take at buffer.old ++ factor_text term.qubit term.letter }
-{
-    let end = put_byte(buffer, at, letter_byte(term.letter));
-    put_qubit(buffer, end, names, term.qubit)
-}
-
-#[inline(always)]
-fn put_qubit(buffer: &mut [u8], at: usize, names: &QubitNames, qubit: u32) -> usize
-    requires room { at + 16 ≤ length buffer.old }
-    ensures within { result ≤ at + 10 }
-    ensures written { take result buffer.new ≡ take at buffer.old ++ decimal qubit }
-{
-    if names.has(qubit) {
-        names.put(buffer, at, qubit)
-    } else {
-        put_number(buffer, at, qubit)
-    }
-}
-
-#[inline(never)]
-fn put_number(buffer: &mut [u8], at: usize, number: u32) -> usize
-    requires room { at + 16 ≤ length buffer.old }
-    ensures within { result ≤ at + 10 }
-    ensures written { take result buffer.new ≡ take at buffer.old ++ decimal number }
-{
-    let (digits, len) = digits_of(number);
-    put_first(buffer, at, digits, len)
 }

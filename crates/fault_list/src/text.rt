@@ -1,5 +1,5 @@
 //! The lines of the faults, on their way to a sink.
-ghost use Rattle.std.specs.Prelude.{◌≡◌, ◌≤◌, decimal, take, IfErr, OnOk, OnErr};
+ghost use Rattle.std.specs.Prelude.{◌≡◌, ◌≤◌, decimal, length, take, IfErr, OnOk, OnErr};
 ghost use Rattle.step_model.specs.Ends.{Takes, TakesBeginning, write_failures};
 ghost use Rattle.step_model.specs.Faults.{write_fault};
 ghost use Rattle.step_model.specs.Listing.{effect_at};
@@ -10,6 +10,7 @@ ghost use Rattle.fault_list.specs.FaultLines.{record_text, effect_text, fault_li
 ghost use Rattle.fault_list.specs.private.HeldLines.{PushesSome};
 
 use crate::blocks::ROOM as BLOCK_ROOM;
+use crate::qubit_names::QubitNames;
 use crate::short_lines::{KeptTexts, put_line};
 use crate::word::{SPAN, write_word};
 use itoa::Buffer;
@@ -47,12 +48,11 @@ const ROOM: usize = 20480;
 /// that they aren't copied there.
 const LAST_LINE: usize = 20224;
 
-// What lines are made in: the buffer of short lines, and room for a long word.
+// What lines are made in: the buffer of short lines, by which the words of long ones go out too, and room for the letters of such a word.
 #[derive(Drop)]
 struct Desk<'t, 'a> {
     lines: [u8; ROOM],
     texts: KeptTexts<'t, 'a>,
-    block: [u8; BLOCK_ROOM],
     letters: [Letter; SPAN],
 }
 
@@ -68,7 +68,6 @@ fn write_faults<'a, A: Allocator + Copy, W: Sink>(
     let mut desk = Desk {
         lines: [0; ROOM],
         texts: KeptTexts::new(program),
-        block: [0; BLOCK_ROOM],
         letters: [Letter::I; SPAN],
     };
     let mut walk = Walk::start(program);
@@ -131,7 +130,8 @@ fn write_long_line<'t, 'a, A: Allocator + Copy, W: Sink>(
     write_effect(
         out,
         sink,
-        &mut desk.block,
+        &mut desk.lines,
+        &desk.texts.names,
         &mut desk.letters,
         program,
         fault,
@@ -143,12 +143,14 @@ fn write_long_line<'t, 'a, A: Allocator + Copy, W: Sink>(
 fn write_effect<'a, A: Allocator + Copy, W: Sink>(
     out: &mut Pieces,
     sink: &mut W,
-    buffer: &mut [u8; BLOCK_ROOM],
+    buffer: &mut [u8],
+    names: &QubitNames,
     letters: &mut [Letter; SPAN],
     program: &Program<'a, A>,
     fault: FoundFault,
 )
-    requires { IsFaultOf program.now fault }
+    requires room { BLOCK_ROOM ≤ length buffer.old }
+    requires fault { IsFaultOf program.now fault }
     ensures { Pushes W.taken W.failures sink.old sink.new out.old out.new
         (effect_text program.now.listing.qubits (effect_at program.now.listing fault.number)) }
 {
@@ -160,6 +162,7 @@ fn write_effect<'a, A: Allocator + Copy, W: Sink>(
                 out,
                 sink,
                 buffer,
+                names,
                 letters,
                 program.qubits(),
                 program.entry_terms(fault.entry),

@@ -8,6 +8,7 @@ ghost use Rattle.fault_list.specs.private.FactorTexts.{is_none, joined_on, term_
 
 use crate::blocks::{ROOM, write_letters};
 use crate::letters::gather;
+use crate::qubit_names::QubitNames;
 use pauli_word::Letter;
 use step_model::{Pieces, Sink, Term};
 
@@ -20,12 +21,14 @@ pub(crate) const SPAN: usize = 4096;
 pub(crate) fn write_word<W: Sink>(
     out: &mut Pieces,
     sink: &mut W,
-    buffer: &mut [u8; ROOM],
+    buffer: &mut [u8],
+    names: &QubitNames,
     letters: &mut [Letter; SPAN],
     qubits: u32,
     terms: &[Term],
 )
-    requires { TermsFit qubits terms.now }
+    requires room { ROOM ≤ length buffer.old }
+    requires terms { TermsFit qubits terms.now }
     ensures { Pushes W.taken W.failures sink.old sink.new out.old out.new
         (word_text (word_of_terms qubits terms.now)) }
 {
@@ -33,7 +36,8 @@ pub(crate) fn write_word<W: Sink>(
     let mut from = lowest_from(terms, 0, qubits);
     while from < qubits {
         let span = span_of(terms.len(), qubits - from);
-        first = write_span(out, sink, buffer, &mut letters[..span], terms, from, first);
+        let letters = &mut letters[..span];
+        first = write_span(out, sink, buffer, names, letters, terms, from, first);
         from = lowest_from(terms, from + span as u32, qubits);
     }
     if first {
@@ -72,17 +76,19 @@ fn span_of(terms: usize, left: u32) -> usize
 fn write_span<W: Sink>(
     out: &mut Pieces,
     sink: &mut W,
-    buffer: &mut [u8; ROOM],
+    buffer: &mut [u8],
+    names: &QubitNames,
     letters: &mut [Letter],
     terms: &[Term],
     from: u32,
     first: bool,
 ) -> bool
-    requires { from + length letters.old ≤ u32.MAX }
+    requires room { ROOM ≤ length buffer.old }
+    requires fits { from + length letters.old ≤ u32.MAX }
     ensures first { result ≡ (first && is_none (term_factors terms.now from (length letters.old))) }
     ensures pushed { Pushes W.taken W.failures sink.old sink.new out.old out.new
         (joined_on first (term_factors terms.now from (length letters.old))) }
 {
     gather(letters, terms, from);
-    write_letters(out, sink, buffer, letters, from, first)
+    write_letters(out, sink, buffer, names, letters, from, first)
 }

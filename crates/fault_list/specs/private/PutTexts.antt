@@ -1,5 +1,5 @@
 -- What is done to a buffer to put a text into it. (This project's own.)
-use Rattle.std.specs.Prelude.{◌≡◌, ◌≤◌, ◌+◌, ℕ, List, ◌++◌, Option, None, IfSome, drop, take}
+use Rattle.std.specs.Prelude.{◌≡◌, ◌≤◌, ◌+◌, ℕ, List, ◌++◌, Option, None, IfSome, take}
 
 -- where an end is answered, the text stands between `at` and there, and has so many bytes at most; where none is, nothing
 -- is changed
@@ -7,9 +7,3 @@ pub record Puts (most at : ℕ) (text old new : List ℕ) (answer : Option ℕ) 
   pub within : IfSome answer (λ end. end ≤ at + most)
   pub written : IfSome answer (λ end. take end new ≡ take at old ++ text)
   pub kept : answer ≡ None → new ≡ old
-
--- the text stands before `end`, and has so many bytes at most
-pub record PutsBefore (most end : ℕ) (text old new : List ℕ) (start : ℕ) : Type 0 where
-  pub within : start ≤ end
-  pub least : end ≤ start + most
-  pub written : drop start new ≡ text ++ drop end old

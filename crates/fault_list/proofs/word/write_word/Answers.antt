@@ -12,7 +12,7 @@ use Rattle.fault_list.proofs.word.write_word.Goals as goal
 pub loop-from-init : goal.loop-from-init
 loop-from-init g c =
     let e = c.lowest_from-from.ensures in
-    let none = none_before c.args.qubits c.args.terms.now c.lowest_from-from.result c.requires e.within e.lowest in
+    let none = none_before c.args.qubits c.args.terms.now c.lowest_from-from.result c.requires.terms e.within e.lowest in
     record {
       within = e.within;
       first = sym (ap is_none none);
@@ -29,7 +29,7 @@ loop-from-preserved g c =
     let e = c.lowest_from-from-in-loop-from.ensures in
     let fs = factors_below (word_of_terms n terms) q in
     let gs = term_factors terms q span in
-    let more = sym (span_more n terms q span next c.requires e.from e.within e.lowest) in
+    let more = sym (span_more n terms q span next c.requires.terms e.from e.within e.lowest) in
     let room : length (take span c.loop-from.letters) ≡ span = search rules in
     let w = c.write_span-first.ensures in
     let text : joined fs ++ joined_on c.loop-from.first (term_factors terms q (length (take span c.loop-from.letters))) ≡ joined (factors_below (word_of_terms n terms) next) =
