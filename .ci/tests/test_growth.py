@@ -1,4 +1,5 @@
-"""How what a text costs grows with it: the processor's time by ratios, and memory by limits that the system sets.
+"""How what a text costs grows with it: the processor's time by ratios, memory by limits that the system sets, and ways to memory
+by a simulated cache.
 
 No clause sees a program that does more than it need. So each test compares a text with one that is a part of it, or with
 another way to the same answer. The bound on the ratio of their times stands between that of the program and that of one which
@@ -6,9 +7,11 @@ forgets a limit, or goes over something anew. Each time is the least of a few ru
 program would take that keeps something which this one doesn't.
 """
 import os
+import re
 import resource
 import subprocess
 
+from pcg64 import Pcg64
 from program import PROGRAM, SECONDS, ProgramTest, file_of, named
 
 MEGABYTE = 1 << 20
@@ -131,3 +134,46 @@ class Memory(ProgramTest):
         """A million detectors of one block, with sixteen coordinates each: no room is taken but for those of the first turn."""
         numbers = ", ".join(["123456789"] * 16)
         self.check_within(12, ["run", "--coins", "0"], f"M 0\nREPEAT 1000000 {{\n    DETECTOR({numbers}) rec[-1]\n}}\n")
+
+
+def scrambled(qubits):
+    """Gates that spread each qubit's words over all qubits, drawn."""
+    words = Pcg64.of_seed(1)
+
+    def shuffled():
+        order = list(range(qubits))
+        for k in range(qubits - 1, 0, -1):
+            other = words.next_word() % (k + 1)
+            order[k], order[other] = order[other], order[k]
+        return named("", order)
+
+    def some():
+        return named("", (q for q in range(qubits) if words.next_word() % 2))
+
+    return "".join(f"H{some()}\nS{some()}\nCX{shuffled()}\nISWAP{shuffled()}\n" for _ in range(8))
+
+
+def missed(words, content):
+    """How often a run finds what it reads or writes in no cache, where these have 4 and 32 KiB and lines of 64 bytes. They are
+    simulated, so that nothing else that the machine does matters."""
+    sizes = ["--I1=32768,8,64", "--D1=4096,4,64", "--LL=32768,8,64"]
+    with file_of(content) as source:
+        ended = subprocess.run(
+            ["valgrind", "--tool=cachegrind", "--cache-sim=yes", *sizes, "--cachegrind-out-file=/dev/null", PROGRAM, *words],
+            stdin=source,
+            stdout=subprocess.DEVNULL,
+            stderr=subprocess.PIPE,
+            timeout=SECONDS,
+            check=True,
+        )
+    return int(re.search(r"LLd misses: *([0-9,]+)", ended.stderr.decode())[1].replace(",", ""))
+
+
+class Caches(ProgramTest):
+    def test_row_updates_of_measurements_wait_for_others(self):
+        """Each of 512 outcomes is random and changes most of the rows of the tableau, 128 KiB. One pass over them makes many changes."""
+        qubits = 512
+        gates = scrambled(qubits)
+        passes = qubits * (qubits * qubits // 2) // 64
+        measured = missed(["run"], gates + f"M{named('', range(qubits))}\n") - missed(["run"], gates)
+        self.assertLess(4 * measured, passes)
