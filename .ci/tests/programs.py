@@ -1,6 +1,5 @@
 """What the tests run: the script, the built program, and a Python that has numpy."""
 import functools
-import importlib.util
 import os
 import shutil
 import subprocess
@@ -8,11 +7,13 @@ import sys
 import unittest
 from pathlib import Path
 
-sys.dont_write_bytecode = True  # so that loading a script leaves nothing among the examples
-
 TOP = Path(__file__).resolve().parents[2]
 FROM_STIM = TOP / "tools" / "from_stim.py"
 DECODE = TOP / "examples" / "decode.py"
+
+sys.dont_write_bytecode = True  # so that its modules leave nothing among the tools
+sys.path.append(str(FROM_STIM.parent))
+from stim_converter import Choices, Converter  # noqa: E402, found by the line above
 
 
 def run(words, data=b""):
@@ -20,28 +21,21 @@ def run(words, data=b""):
     return subprocess.run([str(word) for word in words], input=data, capture_output=True, timeout=300)
 
 
-def load(path):
-    """A script as a module."""
-    spec = importlib.util.spec_from_file_location(path.stem, path)
-    module = importlib.util.module_from_spec(spec)
-    spec.loader.exec_module(module)
-    return module
+def converter_of(text, is_model=False, scale=None, **choices):
+    return Converter(text.split("\n"), is_model, Choices(scale=scale, **choices))
 
 
-from_stim = load(FROM_STIM)
-
-
-def convert(text, is_model=False, scale=1):
+def convert(text, is_model=False, scale=None, **choices):
     """The text that from_stim.py makes of this one; an error where it refuses a line."""
-    converted, refused = from_stim.Converter(text.split("\n"), is_model, scale).convert()
+    converted, refused = converter_of(text, is_model, scale, **choices).convert()
     if refused:
         raise AssertionError(refused)
     return "\n".join(converted)
 
 
-def refusals(text, is_model=False, scale=1):
+def refusals(text, is_model=False, scale=None, **choices):
     """The lines that from_stim.py refuses, each with its reason."""
-    return [(at, str(reason)) for at, reason in from_stim.Converter(text.split("\n"), is_model, scale).convert()[1]]
+    return converter_of(text, is_model, scale, **choices).convert()[1]
 
 
 def without_comments(text):

@@ -8,7 +8,9 @@ from itertools import product
 
 import pauli_words
 from exact_states import LETTERS_1, LETTERS_2, read_instructions, run_circuit
-from programs import TOP, convert, from_stim, refusals, without_comments
+from programs import TOP, convert, refusals, without_comments
+from stim_gates import multiply
+from stim_text import INSTRUCTIONS, Refused
 
 # Every name of Stim's gate reference, aliases too.
 STIM_NAMES = """
@@ -188,22 +190,24 @@ class Gates(unittest.TestCase):
             word = pauli_words.word_of(letters, [5] * len(letters))
             plus = bin(word[1] & word[2]).count("1")
             if (word[0] - plus) % 2:
-                self.assertRaises(from_stim.Refused, from_stim.multiply, text)
+                self.assertRaises(Refused, multiply, text)
             else:
                 letter = {(0, 0): "I", (1, 0): "X", (1, 1): "Y", (0, 1): "Z"}[word[1] >> 5, word[2] >> 5]
                 expected = ((word[0] - plus) % 4 == 2, {5: letter} if letter != "I" else {})
-                self.assertEqual(from_stim.multiply(text), expected, text)
+                self.assertEqual(multiply(text), expected, text)
 
     def test_a_qubit_that_comes_again_keeps_the_order(self):
         self.assertEqual(without_comments(convert("H_NXZ 0 1 0 2")), ["H 0 1", "Y 0 1", "H 0 2", "Y 0 2"])
         self.assertEqual(without_comments(convert("CXSWAP 0 1 2 3 1 4")), ["CX 0 1 2 3", "SWAP 0 1 2 3", "CX 1 4", "SWAP 1 4"])
 
     def test_every_name_of_stim_is_kept_replaced_or_refused(self):
-        self.assertEqual(set(from_stim.INSTRUCTIONS) | set(from_stim.LEFT_OUT) | {"REPEAT"}, set(STIM_NAMES))
+        self.assertEqual(set(INSTRUCTIONS) | {"REPEAT"}, set(STIM_NAMES))
         chances = {"PAULI_CHANNEL_1": "(0.01, 0.01, 0.01)", "PAULI_CHANNEL_2": f"({', '.join(['0.01'] * 15)})",
                    "OBSERVABLE_INCLUDE": "(0)", "DEPOLARIZE1": "(0.01)", "DEPOLARIZE2": "(0.01)", "E": "(0.01)",
-                   "X_ERROR": "(0.01)", "Y_ERROR": "(0.01)", "Z_ERROR": "(0.01)", "CORRELATED_ERROR": "(0.01)"}
-        targets = {"E": "X0", "CORRELATED_ERROR": "X0", "MPP": "X0", "SPP": "X0", "SPP_DAG": "X0", "TICK": "", "SHIFT_COORDS": "",
+                   "X_ERROR": "(0.01)", "Y_ERROR": "(0.01)", "Z_ERROR": "(0.01)", "CORRELATED_ERROR": "(0.01)",
+                   "ELSE_CORRELATED_ERROR": "(0.01)", "HERALDED_ERASE": "(0.01)",
+                   "HERALDED_PAULI_CHANNEL_1": "(0.01, 0.01, 0.01, 0.01)"}
+        targets = {"E": "X0", "CORRELATED_ERROR": "X0", "ELSE_CORRELATED_ERROR": "X0", "MPP": "X0", "SPP": "X0", "SPP_DAG": "X0", "TICK": "", "SHIFT_COORDS": "",
                    "DETECTOR": "", "OBSERVABLE_INCLUDE": "", "MPAD": "0 1"}
         for name in STIM_NAMES:
             line = f"{name}{chances.get(name, '')} {targets.get(name, '0 1')}"

@@ -3,7 +3,8 @@ import random
 import sys
 import unittest
 
-from programs import FROM_STIM, TOP, convert, find_program, from_stim, refusals, run, without_comments
+from programs import FROM_STIM, TOP, convert, find_program, refusals, run, without_comments
+from stim_gates import TWO_GATES
 
 # Stim's texts, or slips, that are refused: text, line, and a part of the reason.
 REFUSED = [
@@ -209,7 +210,7 @@ class Program(unittest.TestCase):
                  f"PAULI_CHANNEL_2({', '.join(['0.0101'] * 15)}) 0 1", "I_ERROR(0.1) 0", "II 0 1", "II_ERROR(0.1) 0 1",
                  "R 0 1 2 3",
                  "SPP X0*Y1*!Z2 X1", "SPP_DAG Z3", "CXSWAP 0 1 1 2", "SWAPCX 0 1", "CZSWAP 0 1", "SWAPCZ 0 1",
-                 *(f"{name} 0 0 1" for name in from_stim.TWO_GATES if name[0] in "HC" and "SWAP" not in name),
+                 *(f"{name} 0 0 1" for name in TWO_GATES if name[0] in "HC" and "SWAP" not in name),
                  "MXX(0.1) 0 !1", "MYY 0 1", "MZZ 0 1", "MPAD(0.01) 0 1", "MPP X0*X0*Z1 X2*X2", "XCZ 0 rec[-1]", "YCZ 1 rec[-2]",
                  "CZ rec[-1] rec[-2]", "E(+0.1) !X0", "DETECTOR(2.0, 1e1) rec[-1]", "OBSERVABLE_INCLUDE(1.0) rec[-1]",
                  "M(0.00000000000000000000000000000000000000001) 0"]
