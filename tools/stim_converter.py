@@ -16,6 +16,7 @@ MOST_OBSERVABLES, MOST_BLOCKS = 1024, 32
 CHANNELS = ("DEPOLARIZE1", "DEPOLARIZE2", "PAULI_CHANNEL_1", "PAULI_CHANNEL_2")
 HERALDS = ("HERALDED_ERASE", "HERALDED_PAULI_CHANNEL_1")
 CORRELATED, ELSE = ("E", "CORRELATED_ERROR"), "ELSE_CORRELATED_ERROR"
+PLAIN_ERROR = re.compile(r"[ \t]*error\(([^()#{} \t\r,]*)\)(?: [DL]\d+| \^)*")  # most lines of a model, and read at once
 RECORD_NUMBER = re.compile(r"(?<=rec\[-)\d+(?=\])")
 APPROXIMATE = "approximate: "
 
@@ -46,7 +47,7 @@ class Converter:
     def convert(self):
         """The lines of the converted text, and what can't be converted, as (line, reason) pairs."""
         converted, refused = [], []
-        if not self.is_model and self.choices.is_renumbered and self.qubits.is_changed():
+        if not self.is_model and self.choices.is_renumbered and self.qubits.numbers:
             converted.append(self.qubits.describe())
         for at, text in enumerate(self.lines, 1):
             try:
@@ -73,6 +74,9 @@ class Converter:
             return self.convert_product(text, at)
         if text in self.known:
             return self.known[text]
+        error = PLAIN_ERROR.fullmatch(text) if self.is_model else None
+        if error:
+            return text[:error.start(1)] + convert_probability(error[1]) + text[error.end(1):]
         parts = LINE.fullmatch(text)
         if not parts:
             raise Refused("no line of Stim's format, or more on it behind a brace")

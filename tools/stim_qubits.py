@@ -25,10 +25,13 @@ class Qubits:
         self.numbers = self.number(needs_spare) if is_renumbered else None
 
     def number(self, needs_spare):
-        """The new number of each: first of the used ones; then, behind a spare one where that is needed, of the others."""
+        """The new number of each: first of the used ones; then, behind a spare one where that is needed, of the others.
+
+        None where these are the old numbers.
+        """
         numbers = {qubit: at for at, qubit in enumerate(self.used)}
         numbers.update((qubit, at) for at, qubit in enumerate(self.placed, len(self.used) + needs_spare))
-        return numbers
+        return numbers if any(qubit != at for qubit, at in numbers.items()) else None
 
     @cached_property
     def spare(self):
@@ -46,10 +49,9 @@ class Qubits:
 
     def rename(self, targets):
         """Targets with the new numbers of their qubits."""
+        if self.numbers is None:
+            return targets
         return QUBIT_NUMBER.sub(lambda found: str(self.numbers[int(found[0])]), targets)
-
-    def is_changed(self):
-        return self.numbers is not None and any(qubit != at for qubit, at in self.numbers.items())
 
     def describe(self):
         """The old numbers, for a comment."""
