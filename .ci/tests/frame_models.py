@@ -1,7 +1,7 @@
 """The error model of a circuit of this project's profile, by following every fault forward through the circuit.
 
 All faults are followed at once: what has flipped is a whole number with one bit a fault. Signs don't matter to flips. This
-tells nothing about random detectors.
+tells nothing about random detectors. Observables may have letters at qubits, as Stim's may.
 """
 from exact_states import read_instructions
 from pauli_words import ALIASES, IMAGES, image_words
@@ -34,6 +34,12 @@ class Frames:
         """Which faults flip the outcome of a letter: those whose letter here anticommutes with it."""
         x, z = self.x.get(qubit, 0), self.z.get(qubit, 0)
         return {"Z": x, "X": z, "Y": x ^ z}[letter]
+
+    def flips_of_target(self, target):
+        """Which faults flip a record; or, as Stim has it of an observable, a letter at a qubit."""
+        if target.startswith("rec"):
+            return self.records[int(target[4:-1])]
+        return self.flips_of(target.lstrip("!")[0], int(target.lstrip("!")[1:]))
 
     def apply_gate(self, name, qubits):
         before = [(self.x.get(qubit, 0), self.z.get(qubit, 0)) for qubit in qubits]
@@ -96,7 +102,7 @@ def follow_faults(text):
         flips = 0
         if name in ("DETECTOR", "OBSERVABLE_INCLUDE"):
             for target in targets:
-                flips ^= frames.records[int(target[4:-1])]
+                flips ^= frames.flips_of_target(target)
         if name == "DETECTOR":
             detectors.append(flips)
             shifts = offset + [0] * len(arguments)
