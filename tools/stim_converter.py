@@ -9,15 +9,15 @@ from stim_gates import replace_gate
 from stim_numbers import convert_probability, read_number
 from stim_observables import Products, find_letters, replace_product
 from stim_qubits import MOST_QUBITS, WITHOUT_QUBITS, Qubits
-from stim_text import (INSTRUCTIONS, LINE, MODEL_LINES, Line, Refused, check_targets, is_instruction, name_of, name_qubits, shown,
-                       split)
+from stim_text import (INSTRUCTIONS, LINE, MODEL_LINES, Line, Refused, check_targets, is_instruction, name_of, name_qubits, number_of,
+                       shown, split)
 
 MOST_OBSERVABLES, MOST_BLOCKS = 1024, 32
 CHANNELS = ("DEPOLARIZE1", "DEPOLARIZE2", "PAULI_CHANNEL_1", "PAULI_CHANNEL_2")
 HERALDS = ("HERALDED_ERASE", "HERALDED_PAULI_CHANNEL_1")
 CORRELATED, ELSE = ("E", "CORRELATED_ERROR"), "ELSE_CORRELATED_ERROR"
 PLAIN_ERROR = re.compile(r"[ \t]*error\(([^()#{} \t\r,]*)\)(?: [DL]\d+| \^)*")  # most lines of a model, and read at once
-RECORD_NUMBER = re.compile(r"(?<=rec\[-)\d+(?=\])")
+RECORD_NUMBER = re.compile(r"(?<=rec\[-)\d{1,18}(?=\])")  # no text has records as far back as greater numbers
 APPROXIMATE = "approximate: "
 
 
@@ -144,7 +144,7 @@ class Converter:
         if name in HERALDS:
             return replace_herald(line, may_approximate, self.find_spare)
         if name == "QUBIT_COORDS":
-            kept = [target for target in line.targets if int(target) < MOST_QUBITS]
+            kept = [target for target in line.targets if number_of(target) < MOST_QUBITS]
             return None if kept == line.targets else [line.write(name, ", ".join(arguments), kept)] * bool(kept), False
         steps = replace_gate(line, arguments, self.find_spare)
         return None if steps is None else [line.write(*step) for step in steps], False
@@ -184,7 +184,7 @@ class Converter:
         if not named or max(named) < MOST_QUBITS:
             return
         if not self.choices.is_renumbered:
-            raise Refused(f"qubit {str(max(named))[:40]}: the greatest qubit is {MOST_QUBITS - 1}; --renumber numbers them in the order "
+            raise Refused(f"qubit {max(named)}: the greatest qubit is {MOST_QUBITS - 1}; --renumber numbers them in the order "
                           "of first use", "qubits")
         if line.name != "QUBIT_COORDS":
             raise Refused(f"the circuit uses {len(self.qubits.used):,} qubits, and {MOST_QUBITS:,} is the most", "qubits")

@@ -4,6 +4,7 @@ In a circuit stabsim reads whole numbers up to 10^9 in DETECTOR and SHIFT_COORDS
 reads whole numbers up to 10^18 - 1, and asks of the coordinates of a detector, once they are shifted, that they are within this
 too.
 """
+import re
 from fractions import Fraction
 from math import gcd
 
@@ -118,9 +119,8 @@ def find_greatest(lines, values):
     for text in lines:
         name = name_of(text)
         if name == "REPEAT":
-            turns = LINE.fullmatch(text)
-            turns = turns["targets"].strip(" \t\r") if turns else ""
-            levels.append(Extent(int(turns) if turns.isdigit() and len(turns) < 40 else 1))
+            turns = re.search(r"\d{1,18}(?=[ \t\r]*\{)", text)
+            levels.append(Extent(int(turns[0]) if turns else 1))
         elif not name and "}" in text.partition("#")[0] and len(levels) > 1:
             block = levels.pop()
             levels[-1].add_block(block)

@@ -1,7 +1,7 @@
 """Gates and measurements that stabsim leaves out, as those that it has."""
 import re
 
-from stim_text import FEEDBACK, INSTRUCTIONS, Refused, cut_into, name_qubits, shown
+from stim_text import FEEDBACK, INSTRUCTIONS, Refused, cut_into, name_qubits, number_of, shown
 
 # Two gates, one after the other, that make one which stabsim leaves out.
 TWO_GATES = {
@@ -18,7 +18,7 @@ def replace_by_two(name, targets):
     """Two gates in place of each: on many targets at once up to where a qubit comes again, since there the order matters."""
     runs, seen = [[]], set()
     for group in cut_into(targets, INSTRUCTIONS[name][2]):
-        qubits = {int(qubit) for qubit in group}
+        qubits = {number_of(qubit) for qubit in group}
         if seen & qubits:
             runs.append([])
             seen = set()
@@ -32,7 +32,7 @@ def multiply_factors(factors):
     letters, power = {}, 0
     for factor in factors:
         power += 2 * factor.startswith("!")
-        letter, qubit = factor.lstrip("!")[0].upper(), int(factor.lstrip("!")[1:])
+        letter, qubit = factor.lstrip("!")[0].upper(), number_of(factor.lstrip("!")[1:])
         before = letters.pop(qubit, "I")
         turn, after = TIMES.get(before + letter, (0, "I" if before == letter else letter))
         power += turn

@@ -1,13 +1,12 @@
 """Numbers of Stim's format: their exact values, and probabilities as stabsim reads them."""
 import re
-import sys
 from decimal import ROUND_DOWN, Context, Decimal, setcontext
 from functools import lru_cache
 
 from stim_text import Refused, shown
 
 setcontext(Context(prec=250, Emax=10**9, Emin=-(10**9)))
-getattr(sys, "set_int_max_str_digits", int)(0)  # any number of zeros may stand in front
+READING = Context(prec=250, rounding=ROUND_DOWN, Emax=10**9, Emin=-(10**9))
 
 NUMBER = re.compile(r"[-+]?(\d+\.?\d*|\.\d+)([eE][-+]?\d{1,15})?")
 DECIMAL = re.compile(r"(\d+\.?\d*|\.\d+)([eE][-+]?\d{1,3})?")
@@ -15,13 +14,13 @@ SIGNED_DECIMAL = re.compile(f"-?({DECIMAL.pattern})")
 
 
 def read_number(text):
-    """The exact value of a number."""
+    """The value of a number, exact up to its 250th digit. What is beyond 1e400 is taken for that, and what is below 1e-400 for 0."""
     if not NUMBER.fullmatch(text):
         raise Refused(f"{shown(text)} is no number")
     value = Decimal(text)
     if abs(value.adjusted()) > 400 and value:
         return Decimal(0) if value.adjusted() < 0 else Decimal("1e400").copy_sign(value)
-    return value
+    return READING.plus(value)
 
 
 def read_probability(text):

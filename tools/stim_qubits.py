@@ -2,9 +2,9 @@
 from functools import cached_property
 
 from stim_gates import has_qubit_twice, multiply_factors
-from stim_text import LINE, QUBIT_NUMBER, STAR, Refused, name_of, name_qubits, split
+from stim_text import LINE, QUBIT_NUMBER, STAR, Refused, name_of, name_qubits, number_of, split
 
-MOST_QUBITS = 4096
+MOST_QUBITS, MOST_OF_STIM = 4096, 2**24
 # Lines whose numbers are no qubits.
 WITHOUT_QUBITS = ("", "MPAD", "REPEAT", "DETECTOR", "SHIFT_COORDS", "TICK")
 # Instructions with records that need a spare qubit.
@@ -49,9 +49,11 @@ class Qubits:
 
     def rename(self, targets):
         """Targets with the new numbers of their qubits."""
+        if any(qubit >= MOST_OF_STIM for qubit in name_qubits(targets)):
+            raise Refused(f"the greatest qubit of Stim is {MOST_OF_STIM - 1}")
         if self.numbers is None:
             return targets
-        return QUBIT_NUMBER.sub(lambda found: str(self.numbers[int(found[0])]), targets)
+        return QUBIT_NUMBER.sub(lambda found: str(self.numbers[number_of(found[0])]), targets)
 
     def describe(self):
         """The old numbers, for a comment."""

@@ -86,9 +86,14 @@ def cut_into(targets, size):
     return [targets[at:at + size] for at in range(0, len(targets), size)]
 
 
+def number_of(digits):
+    """A number of any length, exact up to 10^40: zeros in front may be many, and none has so many digits that counts."""
+    return int(digits) if len(digits) <= 40 else int(digits.lstrip("0")[:41] or 0)
+
+
 def name_qubits(target):
     """The qubits that targets name, and none where one is a record."""
-    return list(map(int, QUBIT_NUMBER.findall(target)))
+    return list(map(number_of, QUBIT_NUMBER.findall(target)))
 
 
 def read_arguments(parts):
@@ -136,7 +141,7 @@ def check_targets(line, table):
     if len(line.targets) % size or (line.name == "SHIFT_DETECTORS" and len(line.targets) != 1):
         raise Refused(f"{line.name} doesn't take {len(line.targets)} targets")
     if size == 2:
-        numbers = [None if "rec" in target else int(target.lstrip("!")) for target in line.targets]
+        numbers = [None if "rec" in target else number_of(target.lstrip("!")) for target in line.targets]
         if any(first == second is not None for first, second in zip(numbers[::2], numbers[1::2])):
             raise Refused(f"{line.name} names a qubit twice in a pair")
 
