@@ -1,6 +1,7 @@
 """What the tests run: the script, the built program, and a Python that has numpy."""
 import functools
 import os
+import re
 import shutil
 import subprocess
 import sys
@@ -36,6 +37,14 @@ def convert(text, is_model=False, scale=None, **choices):
 def refusals(text, is_model=False, scale=None, **choices):
     """The lines that from_stim.py refuses, each with its reason."""
     return converter_of(text, is_model, scale, **choices).convert()[1]
+
+
+def read_rows(title):
+    """The rows of a section of docs/FROM_STIM.md whose first two cells are code: what is converted, and the lines it becomes."""
+    page = (TOP / "docs" / "FROM_STIM.md").read_text()
+    section = re.split(r"^##", page.partition(f"# {title}\n")[2], maxsplit=1, flags=re.MULTILINE)[0]
+    for stim, here in re.findall(r"^\| (`[^|]*`) \| (`[^|]*`) \|", section, re.MULTILINE):
+        yield "\n".join(re.findall(r"`([^`]*)`", stim)), re.findall(r"`([^`]*)`", here)
 
 
 def without_comments(text):

@@ -8,7 +8,7 @@ from itertools import product
 
 import pauli_words
 from exact_states import LETTERS_1, LETTERS_2, read_instructions, run_circuit
-from programs import TOP, convert, refusals, without_comments
+from programs import convert, read_rows, refusals, without_comments
 from stim_gates import multiply
 from stim_text import INSTRUCTIONS, Refused
 
@@ -263,12 +263,10 @@ class Circuits(unittest.TestCase):
             self.assert_same_states("\n".join(lines), 4)
 
     def test_rows_of_the_page(self):
-        """Each row of docs/FROM_STIM.md whose first two cells are code says what the script writes, and both do the same."""
-        rows = re.findall(r"^\| (`[^|]*`) \| (`[^|]*`) \|", (TOP / "docs" / "FROM_STIM.md").read_text(), re.MULTILINE)
+        """Each row whose first two cells are code says what the script writes, and both do the same."""
+        rows = list(read_rows("Gates and measurements"))
         self.assertGreater(len(rows), 25)
-        for stim, here in rows:
-            text = "\n".join(re.findall(r"`([^`]*)`", stim))
-            expected = re.findall(r"`([^`]*)`", here)
+        for text, expected in rows:
             self.assertEqual(without_comments(convert(text))[-len(expected):], expected, text)
             self.assert_same_states(text, 4)
 

@@ -10,30 +10,30 @@ import unittest
 from pathlib import Path
 
 import stim_circuits
-from programs import FROM_STIM, TOP, find_program, run
+from programs import FROM_STIM, TOP, find_program, refusals, run
 from stim_text import SECTIONS
 
 PAGE = (TOP / "docs" / "FROM_STIM.md").read_text()
 
-# A line of each kind that the page says what to do about, the section, and the options that are given.
+# A line of each kind that the page says what to do about, the section, and what was asked.
 REMEDIES = [
-    ("PAULI_CHANNEL_1(0.1, 0, 0.1) 0", "Channels that no independent faults make", []),
-    ("PAULI_CHANNEL_2(0.1, 0.1, 0, 0, 0, 0, 0, 0, 0, 0, 0, 0, 0, 0, 0) 0 1", "Channels that no independent faults make", []),
-    ("DEPOLARIZE1(0.76) 0", "Channels that no independent faults make", []),
-    ("DEPOLARIZE2(0.94) 0 1", "Channels that no independent faults make", []),
-    ("ELSE_CORRELATED_ERROR(0.1) X0", "Errors that exclude one another", []),
-    ("E(0.1) X0\nELSE_CORRELATED_ERROR(0.1) Z0", "Errors that exclude one another", []),
-    ("HERALDED_ERASE(0.1) 0", "Heralded errors", []),
-    ("HERALDED_PAULI_CHANNEL_1(0.1, 0.1, 0, 0) 0", "Heralded errors", []),
-    ("CX sweep[0] 1", "Sweep bits", []),
-    ("H 4096", "Qubits", []),
-    (f"H {' '.join(map(str, range(4097)))}", "Qubits", ["--renumber"]),
-    ("OBSERVABLE_INCLUDE(0) X1", "Observables of Pauli products", []),
-    ("OBSERVABLE_INCLUDE(0) X1\nM 0", "Observables of Pauli products", ["--observables"]),
-    ("DETECTOR(0.5) rec[-1]", "Coordinates", ["--scale", "3"]),
-    ("R !0", "Other lines that are refused", []),
-    ("MPP X0*Y0", "Other lines that are refused", []),
-    ("M 0\nCX 1 rec[-1]", "Other lines that are refused", []),
+    ("PAULI_CHANNEL_1(0.1, 0, 0.1) 0", "Channels that no independent faults make", {}),
+    ("PAULI_CHANNEL_2(0.1, 0.1, 0, 0, 0, 0, 0, 0, 0, 0, 0, 0, 0, 0, 0) 0 1", "Channels that no independent faults make", {}),
+    ("DEPOLARIZE1(0.76) 0", "Channels that no independent faults make", {}),
+    ("DEPOLARIZE2(0.94) 0 1", "Channels that no independent faults make", {}),
+    ("ELSE_CORRELATED_ERROR(0.1) X0", "Errors that exclude one another", {}),
+    ("E(0.1) X0\nELSE_CORRELATED_ERROR(0.1) Z0", "Errors that exclude one another", {}),
+    ("HERALDED_ERASE(0.1) 0", "Heralded errors", {}),
+    ("HERALDED_PAULI_CHANNEL_1(0.1, 0.1, 0, 0) 0", "Heralded errors", {}),
+    ("CX sweep[0] 1", "Sweep bits", {}),
+    ("H 4096", "Qubits", {}),
+    (f"H {' '.join(map(str, range(4097)))}", "Qubits", {"is_renumbered": True}),
+    ("OBSERVABLE_INCLUDE(0) X1", "Observables of Pauli products", {}),
+    ("OBSERVABLE_INCLUDE(0) X1\nM 0", "Observables of Pauli products", {"may_measure": True}),
+    ("DETECTOR(0.5) rec[-1]", "Coordinates", {"scale": 3}),
+    ("R !0", "Other lines that are refused", {}),
+    ("MPP X0*Y0", "Other lines that are refused", {}),
+    ("M 0\nCX 1 rec[-1]", "Other lines that are refused", {}),
 ]
 
 
@@ -45,12 +45,12 @@ class Refusals(unittest.TestCase):
         self.assertEqual((answer.returncode, answer.stdout), (2, b"refused 40 line 1\n" if order == "predict" else b"refused 11 line 1\n"))
 
     def test_what_is_written_is_no_circuit_and_no_model(self):
-        done = run([FROM_STIM], b"H 0\nHERALDED_ERASE[\xff](0.1) 0\nM 0\nM \xe9\nR 0")
+        done = run([sys.executable, FROM_STIM], b"H 0\nHERALDED_ERASE[\xff](0.1) 0\nM 0\nM \xe9\nR 0")
         self.assertEqual(done.returncode, 1)
         self.assertTrue(done.stdout.startswith(b"NOT_CONVERTED # by from_stim.py: line 2: HERALDED_ERASE"), done.stdout)
         for order in ("run", "analyze", "faults"):
             self.assert_refused_as_text(done, order)
-        done = run([FROM_STIM, "--dem"], b"error(0.1) D0\nerror(2) D0")
+        done = run([sys.executable, FROM_STIM, "--dem"], b"error(0.1) D0\nerror(2) D0")
         self.assertEqual(done.returncode, 1)
         self.assert_refused_as_text(done, "predict")
 
@@ -64,33 +64,33 @@ class Refusals(unittest.TestCase):
             self.assert_refused_as_text(done, "analyze")
 
     def test_the_first_three_lines_and_the_number_of_others_are_told(self):
-        done = run([FROM_STIM], b"H 0\n" + b"HERALDED_ERASE(0.1) 0\nTICK\n" * 3 + b"FOO\n" * 1234)
+        done = run([sys.executable, FROM_STIM], b"H 0\n" + b"HERALDED_ERASE(0.1) 0\nTICK\n" * 3 + b"FOO\n" * 1234)
         lines = done.stderr.decode().splitlines()
         self.assertEqual([line.split(":")[0] for line in lines[:3]], ["line 2", "line 4", "line 6"])
         self.assertEqual(lines[3:], ["1,234 more lines can't be converted"])
         for count, end in ((3, "line 3: "), (4, "1 more line can't be converted")):
-            lines = run([FROM_STIM], b"FOO\n" * count).stderr.decode().splitlines()
+            lines = run([sys.executable, FROM_STIM], b"FOO\n" * count).stderr.decode().splitlines()
             self.assertEqual(len(lines), count)
             self.assertTrue(lines[-1].startswith(end), lines)
 
     def test_each_message_names_its_section_of_the_page(self):
         titles = re.findall(r"^##+ (.*)$", PAGE, re.MULTILINE)
         self.assertLessEqual(set(SECTIONS.values()), set(titles))
-        for text, section, words in REMEDIES:
-            done = run([FROM_STIM, *words], text.encode())
-            self.assertEqual(done.returncode, 1, text)
-            for line in done.stderr.decode().splitlines():
-                self.assertTrue(line.endswith(f'(docs/FROM_STIM.md, "{section}")'), line)
+        for text, section, choices in REMEDIES:
+            found = refusals(text, **choices)
+            self.assertNotEqual(found, [], text)
+            for _, reason in found:
+                self.assertTrue(reason.endswith(f'(docs/FROM_STIM.md, "{section}")'), reason)
 
     def test_messages_are_short_whatever_the_text(self):
-        done = run([FROM_STIM], b"H " + b"x" * 10**6 + b"\n" + b"Y" * 10**6 + b" 0\nX_ERROR(" + b"9" * 10**6 + b") 0\nH " + b"8" * 10**6)
+        done = run([sys.executable, FROM_STIM], b"H " + b"x" * 10**6 + b"\n" + b"Y" * 10**6 + b" 0\nX_ERROR(" + b"9" * 10**6 + b") 0\nH " + b"8" * 10**6)
         self.assertEqual(done.returncode, 1)
         self.assertLess(len(done.stderr) + len(done.stdout), 3000)
 
 
 class Streams(unittest.TestCase):
     def start(self, **streams):
-        return subprocess.Popen([str(FROM_STIM)], stderr=subprocess.PIPE, **streams)
+        return subprocess.Popen([sys.executable, FROM_STIM], stderr=subprocess.PIPE, **streams)
 
     def assert_told(self, process, said, status=1):
         written, told = process.communicate(timeout=60)
@@ -104,7 +104,7 @@ class Streams(unittest.TestCase):
         with open("/proc/self/mem", "rb") as memory:  # whose first page can't be read
             written = self.assert_told(self.start(stdin=memory, stdout=subprocess.PIPE), b"the input can't be read: ")
         self.assertTrue(written.startswith(b"NOT_CONVERTED "))
-        done = run(["bash", "-c", f"{FROM_STIM} <&-"])
+        done = run(["bash", "-c", f"{sys.executable} {FROM_STIM} <&-"])
         self.assertEqual((done.returncode, done.stderr.count(b"\n")), (1, 1))
         self.assertTrue(done.stdout.startswith(b"NOT_CONVERTED "))
 
@@ -114,7 +114,7 @@ class Streams(unittest.TestCase):
                 source.write(b"H 0\n" * 100000)
                 source.seek(0)
                 self.assert_told(self.start(stdin=source, stdout=full), b"the output can't be written: ")
-        done = run(["bash", "-c", f"{FROM_STIM} >&-"], b"H 0")
+        done = run(["bash", "-c", f"{sys.executable} {FROM_STIM} >&-"], b"H 0")
         self.assertEqual((done.returncode, done.stderr.count(b"\n")), (1, 1))
 
     def test_a_pipe_that_is_closed_and_an_interrupt_end_it_by_their_signals(self):
@@ -138,7 +138,7 @@ class Speed(unittest.TestCase):
         head, _, rest = text.partition("REPEAT 24 {\n")
         body, _, tail = rest.partition("\n}\n")
         before = resource.getrusage(resource.RUSAGE_CHILDREN).ru_utime
-        done = run([FROM_STIM], (head + (body + "\n") * 24 + tail).encode())
+        done = run([sys.executable, FROM_STIM], (head + (body + "\n") * 24 + tail).encode())
         seconds = resource.getrusage(resource.RUSAGE_CHILDREN).ru_utime - before
         self.assertEqual(done.returncode, 0)
         self.assertGreater(done.stdout.count(b"\n"), 900000)
@@ -161,7 +161,7 @@ class Page(unittest.TestCase):
                 self.assertNotEqual((Path(folder) / "answer").read_bytes(), b"", command)
 
     def test_options_are_those_of_the_command(self):
-        in_help = set(re.findall(r"--[a-z-]+", run([FROM_STIM, "--help"]).stdout.decode())) - {"--help"}
+        in_help = set(re.findall(r"--[a-z-]+", run([sys.executable, FROM_STIM, "--help"]).stdout.decode())) - {"--help"}
         self.assertEqual(set(re.findall(r"^\| `(--[a-z-]+)", PAGE, re.MULTILINE)), in_help)
 
 

@@ -6,7 +6,7 @@ from fractions import Fraction
 
 import pauli_words
 from exact_states import LETTERS_1, LETTERS_2, read_instructions, run_circuit
-from programs import FROM_STIM, convert, converter_of, refusals, run, without_comments
+from programs import FROM_STIM, convert, converter_of, read_rows, refusals, run, without_comments
 from test_from_stim import enumerate_sums
 
 CLOSE = Fraction(1, 10**15)
@@ -75,10 +75,10 @@ class Chains(unittest.TestCase):
         self.assertEqual([line for line, _ in refusals(text)], [2, 5, 6])
 
     def test_a_long_chain_takes_no_longer_than_its_length(self):
-        text = chain_of(["0.000123456789012345"] * 20000, [f"X{k % 50}" for k in range(20000)])
+        text = chain_of(["0.000123456789012345"] * 5000, [f"X{k % 50}" for k in range(5000)])
         lines = without_comments(convert(text, may_approximate=True))
-        self.assertEqual(len(lines), 20000)
-        last = Fraction("0.000123456789012345") * (1 - Fraction("0.000123456789012345"))**19999
+        self.assertEqual(len(lines), 5000)
+        last = Fraction("0.000123456789012345") * (1 - Fraction("0.000123456789012345"))**4999
         self.assertLess(abs(Fraction(re.match(r"E\(([^)]*)\)", lines[-1])[1]) / last - 1), Fraction(1, 10**14))
 
 
@@ -115,6 +115,12 @@ class Approximate(unittest.TestCase):
             (chain_of(["0.1", "0.2", "0.3"], ["X0", "Y1", "Z2 !X0"]), ["E(0.1) X0", "E(0.18) Y1", "E(0.216) Z2 X0"]),
         ):
             self.assertNotEqual(refusals(text), [], text)
+            self.assertEqual(without_comments(convert(text, may_approximate=True)), lines)
+
+    def test_rows_of_the_page(self):
+        rows = list(read_rows("Approximate channels"))
+        self.assertEqual(len(rows), 2)
+        for text, lines in rows:
             self.assertEqual(without_comments(convert(text, may_approximate=True)), lines)
 
     def test_what_is_the_same_stays_the_same(self):
