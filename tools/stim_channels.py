@@ -47,7 +47,8 @@ def find_faults(chances):
     if not any(eigenvalues):
         return [(word, "0.5") for word in words]
     if min(eigenvalues) <= 0:
-        raise NotIndependent("the channel mixes too much to be made of independent faults: an eigenvalue isn't positive", "channels")
+        raise NotIndependent("the channel mixes too much to be made of independent faults: an eigenvalue isn't positive",
+                             "channels")
     faults = []
     for word in words:
         power = Fraction(1)
@@ -107,17 +108,14 @@ def replace_herald(line, may_approximate, find_spare):
         raise Refused("the probabilities come to more than 1")
     faults = list_cases("IXYZ", cases)
     if len(faults) > 1 and not may_approximate:
-        raise NotIndependent(f"{line.name} can't be converted: errors that come only with their herald aren't independent", "heralds")
+        raise NotIndependent(f"{line.name} can't be converted: errors that come only with their herald aren't independent",
+                             "heralds")
     spare = str(find_spare())
     lines = []
     for qubit in line.targets:
-        lines += [line.write("E", chance, ["X" + spare] + [letter + qubit for letter in letter_of(word)]) for word, chance in faults]
+        lines += [line.write("E", chance, ["X" + spare] + [letter + qubit] * (letter != "I")) for letter, chance in faults]
         lines.append(line.write("MR", "", [spare]))
     return lines, len(faults) > 1
-
-
-def letter_of(word):
-    return word.replace("I", "")
 
 
 # Errors that exclude one another

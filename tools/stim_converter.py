@@ -9,8 +9,8 @@ from stim_gates import replace_gate
 from stim_numbers import convert_probability, read_number
 from stim_observables import Products, find_letters, replace_product
 from stim_qubits import MOST_QUBITS, WITHOUT_QUBITS, Qubits
-from stim_text import (INSTRUCTIONS, LINE, MODEL_LINES, Line, Refused, check_targets, is_instruction, name_of, name_qubits, number_of,
-                       shown, split)
+from stim_text import (INSTRUCTIONS, LINE, MODEL_LINES, Line, Refused, check_targets, is_instruction, name_of, name_qubits,
+                       number_of, shown, split)
 
 MOST_OBSERVABLES, MOST_BLOCKS = 1024, 32
 CHANNELS = ("DEPOLARIZE1", "DEPOLARIZE2", "PAULI_CHANNEL_1", "PAULI_CHANNEL_2")
@@ -77,9 +77,7 @@ class Converter:
         error = PLAIN_ERROR.fullmatch(text) if self.is_model else None
         if error:
             return text[:error.start(1)] + convert_probability(error[1]) + text[error.end(1):]
-        parts = LINE.fullmatch(text)
-        if not parts:
-            raise Refused("no line of Stim's format, or more on it behind a brace")
+        parts = cut(text)
         if parts["name"].upper() == "REPEAT" or parts["brace"] == "{":
             return self.open_block(parts, at)
         if is_instruction(parts):
@@ -178,8 +176,8 @@ class Converter:
         """That stabsim reads the numbers of the qubits, and that letters stand in an observable only where they are measured."""
         letters = find_letters(line.targets) if line.name == "OBSERVABLE_INCLUDE" else []
         if letters and not self.choices.may_measure:
-            raise Refused(f"{shown(letters[0])}: observables are sums of records here; --observables measures products where that "
-                          "is the same", "observables")
+            raise Refused(f"{shown(letters[0])}: observables are sums of records here; --observables measures products where "
+                          "that is the same", "observables")
         named = name_qubits(line.changed)
         if not named or max(named) < MOST_QUBITS:
             return
@@ -204,7 +202,7 @@ class Converter:
         if self.products.found[at]:
             self.added += 1
             self.known.clear()
-        line = self.read(LINE.fullmatch(text))
+        line = self.read(cut(text))
         return "\n".join([line.write_comment(), *replace_product(line, ", ".join(self.convert_arguments(line)))])
 
     def convert_in_chain(self, text, at):
@@ -221,7 +219,7 @@ class Converter:
         found, lines = {}, {}
         for at in chain:
             try:
-                lines[at] = self.read(LINE.fullmatch(self.lines[at - 1]))
+                lines[at] = self.read(cut(self.lines[at - 1]))
                 self.convert_arguments(lines[at])
             except Refused as reason:
                 found[at] = reason
@@ -238,6 +236,13 @@ class Converter:
         return {at: self.convert_instruction(lines[at].parts) if done is None
                 else "\n".join([lines[at].write_comment(APPROXIMATE * is_approximate), *done])
                 for at, done in zip(chain, replaced)}
+
+
+def cut(text):
+    parts = LINE.fullmatch(text)
+    if not parts:
+        raise Refused("no line of Stim's format, or more on it behind a brace")
+    return parts
 
 
 def convert_observable(text):

@@ -64,7 +64,8 @@ class Coordinates:
         if whole.denominator != 1:
             raise Refused(f"the coordinate {shown(text)} times {self.scale} is no whole number{self.advise()}", "coordinates")
         if abs(whole) > self.greatest:
-            raise Refused(f"the coordinate {shown(text)} times {self.scale} is beyond {self.greatest}{self.advise()}", "coordinates")
+            raise Refused(f"the coordinate {shown(text)} times {self.scale} is beyond {self.greatest}{self.advise()}",
+                          "coordinates")
         return text if self.scale == 1 and text.lstrip("-").isdigit() else str(int(whole))
 
     def advise(self):

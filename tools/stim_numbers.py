@@ -14,7 +14,7 @@ SIGNED_DECIMAL = re.compile(f"-?({DECIMAL.pattern})")
 
 
 def read_number(text):
-    """The value of a number, exact up to its 250th digit. What is beyond 1e400 is taken for that, and what is below 1e-400 for 0."""
+    """The value of a number, exact up to its 250th digit. One beyond 1e400 is taken for that, and one below 1e-400 for 0."""
     if not NUMBER.fullmatch(text):
         raise Refused(f"{shown(text)} is no number")
     value = Decimal(text)

@@ -19,7 +19,7 @@ class Products:
         last = self.find_products(lines)
         for at in self.found:
             if at < last:
-                self.reasons[at] = f"line {last} measures or resets behind this product, and measuring it might make that random"
+                self.reasons[at] = f"line {last} measures or resets behind it, and that might become random"
         self.find_anticommuting()
 
     def find_products(self, lines):
@@ -37,15 +37,15 @@ class Products:
                 self.found[at] = multiply_factors(find_letters(split_targets(text)))[1]
                 first = first or at
                 if depth > 0:
-                    self.reasons[at] = "this product stands in a block, so it would be measured in each turn"
+                    self.reasons[at] = "it stands in a block, so it would be measured in each turn"
                 elif gate:
-                    self.reasons[at] = f"line {gate} is a gate between this product and that of line {first}"
+                    self.reasons[at] = f"line {gate} is a gate between it and that of line {first}"
             elif first and name not in NO_GATES:
                 gate = gate or at
         return last
 
     def find_anticommuting(self):
-        """Finds the products that anticommute with one before them; of those that were seen, some make all others."""
+        """Finds the products that anticommute with one before them."""
         seen = {}
         for at, letters in self.found.items():
             if at in self.reasons:
@@ -54,7 +54,7 @@ class Products:
             z = sum(1 << qubit for qubit, letter in letters.items() if letter in "ZY")
             for (other_x, other_z), other in seen.items():
                 if (bin(x & other_z).count("1") + bin(z & other_x).count("1")) % 2:
-                    self.reasons[at] = f"this product and that of line {other} anticommute, so that measuring one makes the other random"
+                    self.reasons[at] = f"it and that of line {other} anticommute, so measuring one makes the other random"
                     break
             seen.setdefault((x, z), at)
 

@@ -20,7 +20,7 @@ class Qubits:
             name, parts = name_of(text), LINE.fullmatch(text)
             if parts and name not in WITHOUT_QUBITS:
                 (placed if name == "QUBIT_COORDS" else self.used).update(dict.fromkeys(name_qubits(parts["targets"])))
-            needs_spare = needs_spare or name in WITH_SPARE or name == "MPP" and bool(parts) and has_empty_product(parts["targets"])
+            needs_spare |= name in WITH_SPARE or (name == "MPP" and bool(parts) and has_empty_product(parts["targets"]))
         self.placed = [qubit for qubit in placed if qubit not in self.used]
         self.numbers = self.number(needs_spare) if is_renumbered else None
 

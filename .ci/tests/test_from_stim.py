@@ -207,8 +207,8 @@ class Gates(unittest.TestCase):
                    "X_ERROR": "(0.01)", "Y_ERROR": "(0.01)", "Z_ERROR": "(0.01)", "CORRELATED_ERROR": "(0.01)",
                    "ELSE_CORRELATED_ERROR": "(0.01)", "HERALDED_ERASE": "(0.01)",
                    "HERALDED_PAULI_CHANNEL_1": "(0.01, 0.01, 0.01, 0.01)"}
-        targets = {"E": "X0", "CORRELATED_ERROR": "X0", "ELSE_CORRELATED_ERROR": "X0", "MPP": "X0", "SPP": "X0", "SPP_DAG": "X0", "TICK": "", "SHIFT_COORDS": "",
-                   "DETECTOR": "", "OBSERVABLE_INCLUDE": "", "MPAD": "0 1"}
+        targets = {"E": "X0", "CORRELATED_ERROR": "X0", "ELSE_CORRELATED_ERROR": "X0", "MPP": "X0", "SPP": "X0", "SPP_DAG": "X0",
+                   "TICK": "", "SHIFT_COORDS": "", "DETECTOR": "", "OBSERVABLE_INCLUDE": "", "MPAD": "0 1"}
         for name in STIM_NAMES:
             line = f"{name}{chances.get(name, '')} {targets.get(name, '0 1')}"
             if name in NEVER:

@@ -42,7 +42,8 @@ class Refusals(unittest.TestCase):
         """One line, which the program refuses by its name."""
         self.assertEqual(done.stdout.count(b"\n"), 1, done)
         answer = run([find_program(), order], done.stdout)
-        self.assertEqual((answer.returncode, answer.stdout), (2, b"refused 40 line 1\n" if order == "predict" else b"refused 11 line 1\n"))
+        cause = 40 if order == "predict" else 11
+        self.assertEqual((answer.returncode, answer.stdout), (2, f"refused {cause} line 1\n".encode()))
 
     def test_what_is_written_is_no_circuit_and_no_model(self):
         done = run([sys.executable, FROM_STIM], b"H 0\nHERALDED_ERASE[\xff](0.1) 0\nM 0\nM \xe9\nR 0")
@@ -83,7 +84,10 @@ class Refusals(unittest.TestCase):
                 self.assertTrue(reason.endswith(f'(docs/FROM_STIM.md, "{section}")'), reason)
 
     def test_messages_are_short_whatever_the_text(self):
-        done = run([sys.executable, FROM_STIM], b"H " + b"x" * 10**6 + b"\n" + b"Y" * 10**6 + b" 0\nX_ERROR(" + b"9" * 10**6 + b") 0\nH " + b"8" * 10**6)
+        lines = ("H {}", "{} 0", "X_ERROR({}) 0", "CX 0 {0} 1 {0}", "DETECTOR(0.{})", "E(0.1) X{}", "REPEAT {} {{",
+                 "MPP X{0}*Z{0}")
+        text = "\n".join(line.format(digit * 10**6) for line, digit in zip(lines, "xY989871"))
+        done = run([sys.executable, FROM_STIM], text.encode())
         self.assertEqual(done.returncode, 1)
         self.assertLess(len(done.stderr) + len(done.stdout), 3000)
 

@@ -41,7 +41,8 @@ class OneScale(unittest.TestCase):
         """Halves and fifths need 10; those of qubits go along."""
         text = "QUBIT_COORDS(0.25, 1) 0\nREPEAT 2 {\n    SHIFT_COORDS(0, 0.2)\n    DETECTOR[t](0.5, -3) rec[-1] # c\n}"
         after, said = told(text)
-        self.assertEqual(after, "QUBIT_COORDS(2.5, 10) 0\nREPEAT 2 {\n    SHIFT_COORDS(0, 2)\n    DETECTOR[t](5, -30) rec[-1] # c\n}")
+        self.assertEqual(after, "QUBIT_COORDS(2.5, 10) 0\nREPEAT 2 {\n    SHIFT_COORDS(0, 2)\n"
+                         "    DETECTOR[t](5, -30) rec[-1] # c\n}")
         self.assertEqual(said.count("\n"), 1)
         self.assertIn("multiplied by 10,", said)
         self.assertEqual(told(text, coordinates="scale"), (after, said))
@@ -68,7 +69,8 @@ class OneScale(unittest.TestCase):
 class LeftOut(unittest.TestCase):
     LEFT_OUT = ("QUBIT_COORDS(0.5) 0\nREPEAT 2 {\n    # SHIFT_COORDS(0, 1) # s\n    # DETECTOR[t](0.5, 2)rec[-1] # d\n"
                 "    DETECTOR[t] rec[-1]\n}\nDETECTOR() rec[-1]")
-    TEXT = "QUBIT_COORDS(0.5) 0\nREPEAT 2 {\n    SHIFT_COORDS(0, 1) # s\n    DETECTOR[t](0.5, 2)rec[-1] # d\n}\nDETECTOR() rec[-1]"
+    TEXT = ("QUBIT_COORDS(0.5) 0\nREPEAT 2 {\n    SHIFT_COORDS(0, 1) # s\n    DETECTOR[t](0.5, 2)rec[-1] # d\n}\n"
+            "DETECTOR() rec[-1]")
 
     def test_they_are_where_that_is_asked(self):
         self.assertEqual(told(self.TEXT, coordinates="drop"), (self.LEFT_OUT, ""))
@@ -117,10 +119,12 @@ class LeftOut(unittest.TestCase):
 
 class NewNumbers(unittest.TestCase):
     def test_they_go_by_first_use_and_coordinates_follow(self):
-        text = ("QUBIT_COORDS(1) 7 # seven\nQUBIT_COORDS(2) 90 5\nR 0090 3\nREPEAT 2 {\n    CX 90 3 rec[-1] 5\n    MPP !X90 * Z5\n}\n"
+        text = ("QUBIT_COORDS(1) 7 # seven\nQUBIT_COORDS(2) 90 5\nR 0090 3\nREPEAT 2 {\n    CX 90 3 rec[-1] 5\n"
+                "    MPP !X90 * Z5\n}\n"
                 "M(0.1) !3\nE(0.1) X5 Y90\nMPAD 0 1\nDETECTOR(3, 90) rec[-3]\nDEPOLARIZE2(0.9375) 5 3\n")
         expected = ("# The qubits 0 1 2 4 were 90 3 5 7.\nQUBIT_COORDS(1) 4 # seven\nQUBIT_COORDS(2) 0 2\nR 0 1\nREPEAT 2 {\n"
-                    "    CX 0 1 rec[-1] 2\n    MPP !X0 * Z2\n}\nM(0.1) !1\nE(0.1) X2 Y0\n# MPAD 0 1\nM 3 !3\nDETECTOR(3, 90) rec[-3]\n"
+                    "    CX 0 1 rec[-1] 2\n    MPP !X0 * Z2\n}\nM(0.1) !1\nE(0.1) X2 Y0\n# MPAD 0 1\nM 3 !3\n"
+                    "DETECTOR(3, 90) rec[-3]\n"
                     "# DEPOLARIZE2(0.9375) 5 3\n")
         after = convert(text, is_renumbered=True)
         self.assertEqual(after[:len(expected)], expected)

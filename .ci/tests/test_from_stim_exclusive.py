@@ -18,7 +18,7 @@ def word_of(targets, qubits):
     for target in targets:
         _, more_x, more_z = pauli_words.letter_at(target.lstrip("!")[0], int(target.lstrip("!")[1:]))
         x, z = x ^ more_x, z ^ more_z
-    return "".join({(0, 0): "I", (1, 0): "X", (1, 1): "Y", (0, 1): "Z"}[x >> qubit & 1, z >> qubit & 1] for qubit in range(qubits))
+    return "".join("IXZY"[(x >> qubit & 1) + 2 * (z >> qubit & 1)] for qubit in range(qubits))
 
 
 def chain_of(chances, targets):
@@ -67,7 +67,8 @@ class Chains(unittest.TestCase):
 
     def test_each_line_stays_as_a_comment_in_its_place(self):
         text = "  E[t](0.1) X0 # a\n# b\n\n ELSE_CORRELATED_ERROR(0.5) X0\nE(0.1) X0"
-        self.assertEqual(convert(text), "  # E[t](0.1) X0 # a\n  E[t](0.55) X0\n# b\n\n # ELSE_CORRELATED_ERROR(0.5) X0\nE(0.1) X0")
+        self.assertEqual(convert(text),
+                         "  # E[t](0.1) X0 # a\n  E[t](0.55) X0\n# b\n\n # ELSE_CORRELATED_ERROR(0.5) X0\nE(0.1) X0")
 
     def test_others_are_refused_line_by_line(self):
         text = "\n".join(["E(0.1) X0", "ELSE_CORRELATED_ERROR(0.1) Z0", "M 0", "E(0.1) X0 X1 X2", "ELSE_CORRELATED_ERROR(0.1) X1",

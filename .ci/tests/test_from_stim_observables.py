@@ -55,7 +55,8 @@ class Products(unittest.TestCase):
         self.assertEqual((line, "anticommute" in reason), (7, True))
         after = convert(text.replace("Z1 X1", "Z1 X2"), may_measure=True)
         self.assertEqual(after, (
-            "M 0 1\n    # OBSERVABLE_INCLUDE[t](2) rec[-2] X3 !Z1 # c\n    MPP[t] X3*Z1\n    OBSERVABLE_INCLUDE[t](2) rec[-1] rec[-3]\n"
+            "M 0 1\n    # OBSERVABLE_INCLUDE[t](2) rec[-2] X3 !Z1 # c\n    MPP[t] X3*Z1\n"
+            "    OBSERVABLE_INCLUDE[t](2) rec[-1] rec[-3]\n"
             "REPEAT 2 {\n    DETECTOR rec[-2] rec[-3]\n}\nOBSERVABLE_INCLUDE(0) rec[-2]\n"
             "# OBSERVABLE_INCLUDE(0) rec[-2] Z1 X2 rec[-1]\nMPP Z1*X2\nOBSERVABLE_INCLUDE(0) rec[-1] rec[-4] rec[-3]\n"
             "CX rec[-3] 0 2 3\n"))
@@ -87,8 +88,9 @@ class Products(unittest.TestCase):
             lines = ["R 0 1 2 3"]
             for _ in range(12):
                 a, b, c = source.sample(range(4), 3)
-                lines.append(source.choice((f"CX {a} {b}", f"SWAP {a} {b}", f"CZ {b} {c}", f"Y_ERROR(0.1) {a}", f"E(0.2) X{a} Z{b}",
-                                            f"M(0.3) {a}", f"MR !{c}", f"R {b}", f"X_ERROR(0.4) {a} {b} {c}")))
+                lines.append(source.choice((
+                    f"CX {a} {b}", f"SWAP {a} {b}", f"CZ {b} {c}", f"Y_ERROR(0.1) {a}", f"E(0.2) X{a} Z{b}", f"M(0.3) {a}",
+                    f"MR !{c}", f"R {b}", f"X_ERROR(0.4) {a} {b} {c}")))
             lines.append("M 0 1 2\nDETECTOR rec[-1] rec[-3]")
             for _ in range(5):
                 letters = " ".join(f"Z{qubit}" for qubit in source.choices(range(4), k=3))
