@@ -10,7 +10,7 @@ import unittest
 from pathlib import Path
 
 import stim_circuits
-from programs import FROM_STIM, TOP, find_program, refusals, run
+from programs import FROM_STIM, TOP, Converter, convert, find_program, refusals, run
 from stim_text import SECTIONS
 
 PAGE = (TOP / "docs" / "FROM_STIM.md").read_text()
@@ -89,6 +89,7 @@ class Refusals(unittest.TestCase):
         text = "\n".join(line.format(digit * 10**6) for line, digit in zip(lines, "xY989871"))
         done = run([sys.executable, FROM_STIM], text.encode())
         self.assertEqual(done.returncode, 1)
+        self.assertTrue(done.stdout.startswith(b"NOT_CONVERTED "), done.stderr[:500])
         self.assertLess(len(done.stderr) + len(done.stdout), 3000)
 
 
@@ -135,7 +136,42 @@ class Streams(unittest.TestCase):
         self.assertEqual(process.returncode, -signal.SIGINT)
 
 
+class Options(unittest.TestCase):
+    ROWS = [
+        ([], "H 1\nDETECTOR(0.5)", {}),
+        (["--coordinates", "scale"], "DETECTOR(0.5)", {"coordinates": "scale"}),
+        (["--coordinates", "drop"], "DETECTOR(0.5)", {"coordinates": "drop"}),
+        (["--scale", "6"], "DETECTOR(0.5)", {"scale": 6}),
+        (["--renumber"], "H 7 5", {"is_renumbered": True}),
+        (["--observables"], "OBSERVABLE_INCLUDE(0) X1", {"may_measure": True}),
+        (["--approximate-disjoint"], "PAULI_CHANNEL_1(0.1, 0, 0.1) 0", {"may_approximate": True}),
+        (["--dem"], "detector(0.5) D0", {"is_model": True}),
+        (["--dem", "--scale", "4"], "detector(0.5) D0", {"is_model": True, "scale": 4}),
+        (["--dem", "--coordinates", "drop"], "detector(0.5) D0", {"is_model": True, "coordinates": "drop"}),
+    ]
+
+    def test_each_is_passed_on(self):
+        written = set()
+        for words, text, choices in self.ROWS:
+            done = run([sys.executable, FROM_STIM, *words], text.encode())
+            self.assertEqual((done.returncode, done.stdout.decode()), (0, convert(text, **choices)), words)
+            written.add((text, done.stdout))
+        self.assertEqual(len(written), len(self.ROWS))
+
+
 class Speed(unittest.TestCase):
+    def test_equal_lines_are_converted_once(self):
+        class Counting(Converter):
+            count = 0
+
+            def convert_instruction(self, parts):
+                self.count += 1
+                return super().convert_instruction(parts)
+
+        converter = Counting(["H 0", "DEPOLARIZE1(0.75) 0", "REPEAT 2 {", "H 0", "}"] * 100)
+        self.assertEqual(len(converter.convert()[0]), 500)
+        self.assertEqual(converter.count, 2)
+
     def test_a_surface_code_of_distance_25_without_blocks_takes_three_seconds_at_most(self):
         """25 rounds, each written out, with 975,000 faults and more."""
         text = stim_circuits.surface_code("rotated", stim_circuits.rotated_layout(25), "Z", 25, 25)

@@ -74,6 +74,10 @@ class Chains(unittest.TestCase):
         text = "\n".join(["E(0.1) X0", "ELSE_CORRELATED_ERROR(0.1) Z0", "M 0", "E(0.1) X0 X1 X2", "ELSE_CORRELATED_ERROR(0.1) X1",
                           "ELSE_CORRELATED_ERROR(0.1) X2"])
         self.assertEqual([line for line, _ in refusals(text)], [2, 5, 6])
+        # On two qubits these are nearly depolarizing, and X on a third one with each of them is not.
+        words = [" ".join(letter + str(qubit) for qubit, letter in enumerate(word) if letter != "I") for word in LETTERS_2]
+        self.assertEqual(refusals(chain_of(["0.01"] * 15, words)), [])
+        self.assertEqual(len(refusals(chain_of(["0.01"] * 15, [word + " X2" for word in words]))), 14)
 
     def test_a_long_chain_takes_no_longer_than_its_length(self):
         text = chain_of(["0.000123456789012345"] * 5000, [f"X{k % 50}" for k in range(5000)])
