@@ -1,5 +1,6 @@
 """What the tests run: the script, the built program, and a Python that has numpy."""
 import functools
+import importlib.util
 import os
 import re
 import shutil
@@ -20,6 +21,14 @@ from stim_converter import Choices, Converter  # noqa: E402, found by the line a
 def run(words, data=b""):
     """A command's status, output and messages, by bytes."""
     return subprocess.run([str(word) for word in words], input=data, capture_output=True, timeout=300)
+
+
+def load(path):
+    """A script as a module."""
+    spec = importlib.util.spec_from_file_location(path.stem, path)
+    module = importlib.util.module_from_spec(spec)
+    spec.loader.exec_module(module)
+    return module
 
 
 def converter_of(text, is_model=False, scale=None, **choices):

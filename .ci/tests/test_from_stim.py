@@ -106,6 +106,10 @@ class Channels(unittest.TestCase):
                 texts = [f"0.0{source.randrange(20000, 21000)}" for _ in words]
                 self.assert_channel(f"{name}({', '.join(texts)}) {targets}", dict(zip(words, map(Fraction, texts))))
 
+    def test_x_and_z_that_are_independent_are_found(self):
+        """With q = 0.1 each: q (1 - q) = 0.09 and q^2 = 0.01, as docs/FROM_STIM.md says."""
+        self.assertEqual(faults_of("PAULI_CHANNEL_1(0.09, 0.01, 0.09) 0"), [("X", Fraction(1, 10)), ("Z", Fraction(1, 10))])
+
     def test_one_word_alone_is_one_fault(self):
         self.assertEqual(faults_of("PAULI_CHANNEL_1(0, 0.9, 0) 0"), [("Y", Fraction(9, 10))])
         only_xz = ", ".join("0.5" if word == "XZ" else "0" for word in LETTERS_2)
