@@ -30,8 +30,12 @@ import argparse
 import os
 import sys
 
-from stim_converter import Choices, Converter
-from stim_text import SECTIONS
+try:
+    from stim_converter import Choices, Converter
+    from stim_text import SECTIONS
+except ImportError as missing:
+    print("NOT_CONVERTED # by from_stim.py: it needs the files stim_*.py beside it")
+    sys.exit(f"from_stim.py needs Python 3.8 or later, and the files stim_*.py beside it: {missing}")
 
 SHOWN = 3
 

@@ -2,6 +2,7 @@
 import os
 import re
 import resource
+import shutil
 import signal
 import subprocess
 import sys
@@ -91,6 +92,15 @@ class Refusals(unittest.TestCase):
         self.assertEqual(done.returncode, 1)
         self.assertTrue(done.stdout.startswith(b"NOT_CONVERTED "), done.stderr[:500])
         self.assertLess(len(done.stderr) + len(done.stdout), 3000)
+
+
+    def test_it_says_what_it_needs_beside_it(self):
+        with tempfile.TemporaryDirectory() as folder:
+            shutil.copy(FROM_STIM, folder)
+            done = run([sys.executable, Path(folder) / FROM_STIM.name], b"H 0")
+        self.assertEqual(done.returncode, 1)
+        self.assertRegex(done.stderr.decode(), r"\Afrom_stim.py needs .*the files stim_\*\.py beside it[^\n]*\n\Z")
+        self.assert_refused_as_text(done, "analyze")
 
 
 class Streams(unittest.TestCase):
