@@ -81,7 +81,7 @@ class Products(unittest.TestCase):
         self.assertEqual(run([find_program(), "analyze"], measured.encode()).returncode, 3)
 
     def test_drawn_circuits_have_the_model_that_following_each_fault_gives(self):
-        """Gates that keep products of Z such products, so that all parities are fixed; then products at the end."""
+        """Gates that keep products of Z such products, so that all parities are fixed; then Z of each becomes some letter."""
         program, source = find_program(), random.Random(5)
         lengths = set()
         for _ in range(25):
@@ -92,10 +92,12 @@ class Products(unittest.TestCase):
                     f"CX {a} {b}", f"SWAP {a} {b}", f"CZ {b} {c}", f"Y_ERROR(0.1) {a}", f"E(0.2) X{a} Z{b}", f"M(0.3) {a}",
                     f"MR !{c}", f"R {b}", f"X_ERROR(0.4) {a} {b} {c}")))
             lines.append("M 0 1 2\nDETECTOR rec[-1] rec[-3]")
+            bases = source.choices("XYZ", k=4)
+            lines += [f"{ {'X': 'H', 'Y': 'H_YZ', 'Z': 'I'}[letter] } {qubit}" for qubit, letter in enumerate(bases)]
             for _ in range(5):
-                letters = " ".join(f"Z{qubit}" for qubit in source.choices(range(4), k=3))
+                letters = " ".join(f"{bases[qubit]}{qubit}" for qubit in source.choices(range(4), k=3))
                 lines.append(source.choice((f"OBSERVABLE_INCLUDE({source.randrange(3)}) rec[-{source.randrange(1, 4)}] {letters}",
-                                            "X_ERROR(0.5) 1 2", "DETECTOR rec[-2]", "OBSERVABLE_INCLUDE(1) rec[-3]")))
+                                            "E(0.5) X1 Y2 Z3", "DETECTOR rec[-2]", "OBSERVABLE_INCLUDE(1) rec[-3]")))
             text = "\n".join(lines)
             after = convert(text, may_measure=True)
             model = run([program, "analyze"], after.encode()).stdout.decode()
