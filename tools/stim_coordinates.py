@@ -21,13 +21,9 @@ class Coordinates:
     def __init__(self, lines, is_model, choice, scale):
         self.lines, self.is_model = lines, is_model
         self.greatest = 10**18 - 1 if is_model else 10**9
-        self.scale, self.note, self.is_given = scale, None, scale is not None
         self.least = None if choice == "drop" else self.find_scale()
-        if choice == "drop":
-            self.scale = None
-        elif not self.is_given:
-            self.scale = self.least
-            self.note = self.describe()
+        self.scale = scale or self.least
+        self.note = None if scale or choice == "drop" else self.describe()
 
     def describe(self):
         """What is told of a scale that was found, or wasn't."""

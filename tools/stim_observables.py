@@ -50,13 +50,11 @@ class Products:
         for at, letters in self.found.items():
             if at in self.reasons:
                 continue
-            x = sum(1 << qubit for qubit, letter in letters.items() if letter in "XY")
-            z = sum(1 << qubit for qubit, letter in letters.items() if letter in "ZY")
-            for (other_x, other_z), other in seen.items():
-                if (bin(x & other_z).count("1") + bin(z & other_x).count("1")) % 2:
+            for other, before in seen.values():
+                if sum(before.get(qubit, letter) != letter for qubit, letter in letters.items()) % 2:
                     self.reasons[at] = f"it and that of line {other} anticommute, so measuring one makes the other random"
                     break
-            seen.setdefault((x, z), at)
+            seen.setdefault(frozenset(letters.items()), (at, letters))
 
     def check(self, at):
         if at in self.reasons:

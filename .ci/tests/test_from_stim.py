@@ -1,6 +1,5 @@
 """What tools/from_stim.py writes is the same as what it read: channels, gates, and whole circuits, run exactly."""
 import random
-import re
 import unittest
 from decimal import Decimal, localcontext
 from fractions import Fraction

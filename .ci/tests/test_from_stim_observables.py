@@ -37,6 +37,7 @@ REFUSED = [
     ("OBSERVABLE_INCLUDE(0) Z0*X1", 1, "no target"),
     ("OBSERVABLE_INCLUDE(1024) Z0", 1, "beyond 1023"),
     ("OBSERVABLE_INCLUDE(0) Z5000", 1, "greatest qubit"),
+    (f"OBSERVABLE_INCLUDE(0) Z{10**15}", 1, "greatest qubit"),
 ]
 
 
