@@ -20,7 +20,8 @@ tac touch xargs""".split()
 # beside it asks for something else: `sleeps` for a build that doesn't end, `slow` for one of a second, `fails` for one that fails,
 # `fails-to-check` for a check that fails, `fails-behind` for a build that fails when the program is written, `builds-nothing` for one
 # that writes none, and `edits` for code that changes after it was read. A check leaves what the real one keeps. As the real one it says
-# which crates it proved, and keeps these by their files and those of the crates before them, for later calls in other folders.
+# which crates it proved, and keeps these by their files and those of the crates before them, for later calls in other folders. Asked for
+# its version, it notes nothing.
 RT = """#!/bin/sh
 here=${0%/*}
 prove() {
@@ -33,6 +34,7 @@ prove() {
     touch "$kept"
 }
 pause() { [ -e "$here/sleeps" ] && { touch "$here/sleeping"; sleep 100; }; }
+[ "$1" = version ] && { echo 'stand-in logic 0123456789abcdef'; exit; }
 echo "$*" >>"$here/calls"
 echo "${GLIBC_TUNABLES-unset}" >>"$here/tunables"
 cat >>"$here/stdin"
