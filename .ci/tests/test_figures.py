@@ -48,6 +48,7 @@ FIGURES = {
     ],
     "logic of the toolchain": [
         (README, r"`logic ([0-9a-f]{16})`"),
+        ("stabsim", r"^logic=([0-9a-f]{16})$"),
         (PROVED, r"^ logic ([0-9a-f]{16})$"),
     ],
     "greatest qubit": [
