@@ -1,4 +1,5 @@
-"""Tests of the launcher: what it tells beside what the program writes, and that the program's bytes, statuses and ends pass unchanged."""
+"""Tests of the launcher: what it tells beside what the program writes, and that the program's bytes, statuses and ends pass
+unchanged."""
 
 import contextlib
 import os
@@ -15,7 +16,8 @@ READERS = ("run", "sample", "detect", "analyze", "faults", "predict")
 
 # What is told of a status, by the words of the call.
 TOLD = [
-    (["analyze"], 1, "stabsim: failed: memory ran out, or standard input or output failed; what was written is at most a beginning of the answer\n"),
+    (["analyze"], 1, "stabsim: failed: memory ran out, or standard input or output failed; what was written is at most a "
+                     "beginning of the answer\n"),
     *(([name], 2, "stabsim: refused: standard output says why: 'refused N line L' (./stabsim --help explains each N) or 'usage' "
                   f"(see ./stabsim {name} --help)\n") for name in READERS),
     (["walk"], 2, "stabsim: refused: walk is no command; ./stabsim --help lists them\n"),
@@ -23,14 +25,14 @@ TOLD = [
     (["two\nlines"], 2, "stabsim: refused: ... is no command; ./stabsim --help lists them\n"),
     ([""], 2, "stabsim: refused: '' is no command; ./stabsim --help lists them\n"),
     ([], 2, "stabsim: refused: a command is needed; ./stabsim --help lists them\n"),
-    (["analyze"], 3, "stabsim: random: what standard output names has no fixed value even without faults; tools/explain_random.py says where "
-                     "it stands and why\n"),
+    (["analyze"], 3, "stabsim: random: what standard output names has no fixed value even without faults; "
+                     "tools/explain_random.py says where it stands and why\n"),
     (["run"], 0, ""), (["run"], 77, ""), (["--help"], 0, ""), ([], 0, ""),
 ]
 
 # The signals that end a program, and which a caller sends.
-ENDS = [signal.SIGHUP, signal.SIGINT, signal.SIGQUIT, signal.SIGABRT, signal.SIGALRM, signal.SIGTERM, signal.SIGUSR1, signal.SIGUSR2,
-        signal.SIGXCPU]
+ENDS = [signal.SIGHUP, signal.SIGINT, signal.SIGQUIT, signal.SIGABRT, signal.SIGALRM, signal.SIGTERM, signal.SIGUSR1,
+        signal.SIGUSR2, signal.SIGXCPU]
 
 # A program that notes its number and doesn't end.
 SLEEPER = '#!/bin/sh\necho $$\nexec sleep 100\n'
@@ -220,7 +222,8 @@ class Signals(Case):
 
     def test_signals_that_the_caller_ignores(self):
         """As under nohup, and as a shell's jobs in the background ignore Ctrl-C."""
-        self.write(self.program, "#!/bin/sh\nkill -s HUP $$\nkill -s INT $$\nkill -s HUP $PPID\nkill -s INT $PPID\nexit 3\n", mode=0o755)
+        sent = "".join(f"kill -s {name} {to}\n" for name in ("HUP", "INT") for to in ("$$", "$PPID"))
+        self.write(self.program, f"#!/bin/sh\n{sent}exit 3\n", mode=0o755)
         ignoring = ["sh", "-c", 'trap "" HUP INT; exec "$@"', "sh", f"{self.top}/stabsim"]
         self.assertEqual(self.call(launcher=ignoring).returncode, 3)
 
@@ -260,7 +263,8 @@ class Version(Case):
         first, *others = self.told(with_rt=False)
         self.assertRegex(first, r"^stabsim \d+\.\d+\.\d+$")
         logic = re.search(r"`(logic [0-9a-f]{16})`", self.read(f"{REPOSITORY}/README.md"))[1]
-        self.assertEqual(others, ["commit unknown: git finds none here", f"proved by the {logic} of Rattle's toolchain", "rt in PATH: none"])
+        self.assertEqual(others, ["commit unknown: git finds none here", f"proved by the {logic} of Rattle's toolchain",
+                                  "rt in PATH: none"])
 
     def test_the_toolchain(self):
         self.assertEqual(self.told()[3], "rt in PATH: stand-in logic 0123456789abcdef")
