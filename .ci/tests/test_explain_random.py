@@ -228,7 +228,8 @@ class Explanations(unittest.TestCase):
             with self.subTest(text=text, answer=answer):
                 done = self.ask(text, answer)
                 self.assertEqual((done.stdout, done.returncode), (b"", 1))
-                self.assertRegex(done.stderr.decode(), rf"^explain_random.py: .*{re.escape(reason)}.*: they don't belong together\n$")
+                said = rf"^explain_random.py: .*{re.escape(reason)}.*: they don't belong together\n$"
+                self.assertRegex(done.stderr.decode(), said)
 
     def test_what_can_not_be_read(self):
         for text, answer, reason in UNREADABLE:
