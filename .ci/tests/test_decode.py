@@ -145,7 +145,8 @@ class Recipes(unittest.TestCase):
         program = find_program()
         recipes = re.findall(r"^```sh\n(.*?)^```", (TOP / "docs" / page).read_text(), re.MULTILINE | re.DOTALL)
         with tempfile.TemporaryDirectory() as folder:
-            os.symlink(TOP / "examples", Path(folder) / "examples")
+            for name in "examples", "tools":
+                os.symlink(TOP / name, Path(folder) / name)
             os.symlink(program, Path(folder) / "stabsim")
             (Path(folder) / "crates" / "stabsim" / "out").mkdir(parents=True)
             os.symlink(program, Path(folder) / "crates" / "stabsim" / "out" / "stabsim")
