@@ -2,12 +2,14 @@
 unchanged."""
 
 import contextlib
+import fcntl
 import os
 import pty
 import re
 import shutil
 import signal
 import subprocess
+import termios
 import unittest
 
 from stand_in import REPOSITORY, Case
@@ -203,6 +205,23 @@ class Signals(Case):
                     self.assertEqual(started.communicate(timeout=20), (b"", b""))
                     self.assertEqual(started.returncode, -number)
                     self.assertFalse(self.is_there(program))
+
+    def test_ctrl_c_and_input_at_a_terminal(self):
+        """The program is of the terminal's foreground, so that it may read, and Ctrl-C ends both."""
+        self.write(self.program, "#!/bin/sh\necho $$\nread -r line\necho $line\nexec sleep 100\n", mode=0o755)
+        ours, theirs = pty.openpty()
+        take = lambda: [fcntl.ioctl(theirs, termios.TIOCSCTTY, 0), signal.signal(signal.SIGINT, signal.SIG_DFL)]
+        how = {"stdin": theirs, "stdout": subprocess.PIPE, "stderr": subprocess.DEVNULL, "start_new_session": True}
+        started = subprocess.Popen([f"{self.top}/stabsim", "run"], env=self.environment(), preexec_fn=take, **how)
+        self.addCleanup(self.end, started)
+        os.close(theirs)
+        program = int(started.stdout.readline())
+        with os.fdopen(ours, "wb", buffering=0) as terminal:
+            terminal.write(b"M 0\n")
+            self.assertEqual(started.stdout.readline(), b"M 0\n")
+            terminal.write(b"\x03")
+            self.assertEqual(started.wait(timeout=20), -signal.SIGINT)
+            self.assertFalse(self.is_there(program))
 
     def test_a_signal_that_ends_the_program(self):
         for number in (signal.SIGKILL, signal.SIGSEGV, signal.SIGPIPE, signal.SIGTERM, signal.SIGXCPU, signal.SIGABRT):
