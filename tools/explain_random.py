@@ -26,7 +26,7 @@ LINE = re.compile(
     r"[ \t\r]*(?P<name>[^ \t\r\[({}#]*)([ \t\r]*\[[^\]]*\])?([ \t\r]*\((?P<arguments>[^)#]*)\))?"
     r"(?P<targets>[^#{}]*)(?P<brace>[{}]?)[ \t\r]*(#.*)?", re.DOTALL)
 
-MEASURED = set("M MZ MX MY MR MRZ MRX MRY".split())
+MEASURED = set("M MZ MX MY MR MRZ MRX MRY MPP".split())
 RESET = set("R RZ RX RY".split())
 # Instructions that have no collapse, and are nothing that an answer names.
 OTHERS = set("""
@@ -49,12 +49,12 @@ class Apart(Exception):
 class Line:
     """A line of the circuit that collapses, detects or shifts: what one turn of it counts."""
 
+    __slots__ = "at", "name", "text", "collapses", "detectors", "observable", "places", "shift"
     turns = 1
 
-    def __init__(self, at, name, text, targets=(), **counts):
-        self.at, self.name, self.text, self.targets = at, name, text, targets
-        self.collapses, self.detectors = counts.get("collapses", 0), counts.get("detectors", 0)
-        self.observable, self.places, self.shift = counts.get("observable"), counts.get("places", []), counts.get("shift", [])
+    def __init__(self, at, name, text, collapses=0, detectors=0, observable=None, places=(), shift=()):
+        self.at, self.name, self.text, self.collapses, self.detectors = at, name, text, collapses, detectors
+        self.observable, self.places, self.shift = observable, places, shift
 
 
 class Block:
@@ -84,7 +84,8 @@ def moved(offsets, shift, times):
 
 
 def split(text):
-    return re.findall(r"[^ \t\r]+", text)
+    """Targets. Blanks may stand round the * of a product."""
+    return re.findall(r"[^ \t\r]+", re.sub(r"[ \t\r]*\*[ \t\r]*", "*", text))
 
 
 def read_number(text, what):
@@ -107,11 +108,7 @@ def read_line(at, text, parts):
     if name in OTHERS:
         return None
     if name in MEASURED or name in RESET:
-        targets = split(parts["targets"])
-        return Line(at, name, text, targets, collapses=len(targets))
-    if name == "MPP":
-        products = split(re.sub(r"[ \t\r]*\*[ \t\r]*", "*", parts["targets"]))
-        return Line(at, name, text, products, collapses=len(products))
+        return Line(at, name, text, collapses=len(split(parts["targets"])))
     if name == "DETECTOR":
         return Line(at, name, text, detectors=1, places=read_numbers(parts["arguments"], "the coordinate"))
     if name == "SHIFT_COORDS":
@@ -272,7 +269,7 @@ def tell_coins(circuit, first, second):
     line, turns, target, _ = find(circuit, "collapses", number)
     kind = "reset" if line.name in RESET else "measurement and reset" if line.name.startswith("MR") else "measurement"
     yield f"Coins: {len(first)}. Differing in the two lists: {differing.count(1)}"
-    name = shorten(line.targets[target])
+    name = shorten(split(LINE.fullmatch(line.text)["targets"])[target])
     yield f"The first is coin {number}, the {kind} of target {target + 1} ({name}) of line {line.at}{within(turns)}:"
     yield quote(line)
     counts = Counter(compress(lines_of_collapses(circuit), differing))

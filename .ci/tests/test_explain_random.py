@@ -343,11 +343,10 @@ class Explanations(unittest.TestCase):
 
     def test_names_are_those_of_the_format(self):
         script = explain_random
-        known = {*script.MEASURED, *script.RESET, *script.OTHERS, "MPP", "DETECTOR", "OBSERVABLE_INCLUDE", "SHIFT_COORDS",
-                 "REPEAT"}
+        known = {*script.MEASURED, *script.RESET, *script.OTHERS, "DETECTOR", "OBSERVABLE_INCLUDE", "SHIFT_COORDS", "REPEAT"}
         self.assertEqual(known, {name.decode() for name, kind in KINDS_OF_NAMES.items() if kind != "left out"})
-        for names, kind in (script.MEASURED, "measured"), (script.RESET, "reset"):
-            self.assertEqual(names, {name.decode() for name, its in KINDS_OF_NAMES.items() if its == kind})
+        for names, kinds in (script.MEASURED, ("measured", "products")), (script.RESET, ("reset",)):
+            self.assertEqual(names, {name.decode() for name, kind in KINDS_OF_NAMES.items() if kind in kinds})
 
     def test_what_the_program_answers_is_explained(self):
         """Drawn circuits that have a random target."""
