@@ -297,9 +297,9 @@ class Explanations(unittest.TestCase):
         self.assertEqual(turns_in(told[1])[:2], [(most, most, 31), (1, most, 30)])
         self.assertEqual(told[3], "Its coordinates: 1999999999999999999")
 
-    def check(self, text, kind, number, source):
-        """An explanation of a target by coins that are drawn, beside the walk that unrolls."""
-        collapses, detectors, observables = unrolled(text)
+    def check(self, text, walked, target, source):
+        """An explanation of a target by coins that are drawn, beside what the walk that unrolls found."""
+        (kind, number), (collapses, detectors, observables) = target, walked
         first, second = ("".join(source.choice("0001") for _ in collapses) for _ in range(2))
         differing = [place for place, (a, b) in enumerate(zip(first, second)) if a != b]
         answer = f"random {kind}{number}\n{first}\n{second}\n"
@@ -335,10 +335,10 @@ class Explanations(unittest.TestCase):
         for seed in range(1, 26):
             for kind in KINDS:
                 text, source = draw_both(seed, kind)[0], random.Random(seed)
-                _, detectors, observables = unrolled(text)
+                walked = unrolled(text)
+                targets = [("D", number) for number in range(len(walked[1]))] + [("L", number) for number in walked[2]]
                 with self.subTest(text=text):
-                    explained += sum(self.check(text, "D", number, source) for number in range(len(detectors)))
-                    explained += sum(self.check(text, "L", number, source) for number in observables)
+                    explained += sum(self.check(text, walked, target, source) for target in targets)
         self.assertGreater(explained, 300)
 
     def test_names_are_those_of_the_format(self):
