@@ -119,9 +119,10 @@ class Recipes(unittest.TestCase):
     def test_sizes_are_those_of_the_files(self):
         """100 shots take as many hundreds of bytes as 1,000,000 take MB."""
         bytes_of_a_shot = len(self.shots(1)) // 100
-        told = re.search(r"take D \+ O \+ 1 MB: (\d+) MB for\s`examples/surface_code.stim`. So the 100 jobs of this circuit "
-                         r"write ([\d.]+) GB", README)
-        self.assertEqual((int(told[1]), float(told[2])), (bytes_of_a_shot, bytes_of_a_shot * 100 / 1000))
+        told = re.search(r"take D \+ O \+ 1 MB: (\d+) MB for\s`examples/surface_code.stim`. Its 100 jobs write ([\d.]+) GB, and "
+                         r"with `shots.txt`, which has the same shots once more, that is ([\d.]+) GB", README)
+        sizes = [bytes_of_a_shot, bytes_of_a_shot * 100 / 1000, 2 * bytes_of_a_shot * 100 / 1000]
+        self.assertEqual([float(told[it]) for it in (1, 2, 3)], sizes)
 
     def test_the_explanation_of_a_random_target(self):
         page = (TOP / "docs" / "FORMATS.md").read_text().partition("\n### Why a target is random\n")[2]
