@@ -122,7 +122,9 @@ class Decoding(unittest.TestCase):
             ({"analyze": ("random D3\\n0\\n1\\n", 3)}, "analyze ended with status 3: random D3"),
             ({"analyze": (model, 1)}, "analyze ended with status 1"),
             ({"analyze": (model, 0), "detect": ("refused 52 line 0\\n", 2)}, "detect ended with status 2: refused 52 line 0"),
-            ({"analyze": (large, 0)}, "too many for a table"),
+            ({"analyze": (large, 0)}, "too many for a table; use tools/match.py"),
+            ({"analyze": ("detector D0\\nerror(2) D0\\n", 0)}, "line 2: an error has one probability, from 0 to 1"),
+            ({"analyze": (model, 0), "detect": ("00\\n1\\n", 0)}, "decode.py: "),
         ]
         for answers, said in rows:
             with tempfile.TemporaryDirectory() as folder:
@@ -130,6 +132,38 @@ class Decoding(unittest.TestCase):
             self.assertEqual(done.returncode, 1, said)
             self.assertIn(said, done.stderr.decode())
             self.assertNotIn(b"rate", done.stdout)
+            self.assertNotIn(b"Traceback", done.stderr)
+
+    def test_what_is_missing_or_wrong_is_told(self):
+        python = find_numpy_python()
+        rows = [
+            (["--program", "/nowhere/stabsim", CIRCUIT], 1, b"'/nowhere/stabsim'"),
+            (["--program", "/nowhere/stabsim", "nofile.stim"], 1, b"'nofile.stim'"),
+            ([], 2, b"usage: "),
+            (["--shots", "0", CIRCUIT], 2, b"--shots takes a whole number from 1 on"),
+            (["--seed", "-1", CIRCUIT], 2, b"--seed one from 0 on"),
+        ]
+        for words, status, said in rows:
+            done = run([python, DECODE, *words])
+            self.assertEqual((done.returncode, done.stdout), (status, b""), words)
+            self.assertIn(said, done.stderr)
+            self.assertNotIn(b"Traceback", done.stderr)
+
+    def test_a_model_with_blocks_is_decoded_as_without(self):
+        """The code of three bits that is seen twice: D0 to D3 by the first block, and the observable by the shift behind it."""
+        python = find_numpy_python()
+        blocks = "repeat 2 {\\nerror(0.1) D0\\nerror(0.1) D0 ^ D1\\nshift_detectors 2\\n}\\nshift_detectors 1\\nerror[x](0.2) D0 L0\\n"
+        plain = "error(0.1) D0\\nerror(0.1) D0 D1\\nerror(0.1) D2\\nerror(0.1) D2 D3\\nerror(0.2) D5 L0\\ndetector D4\\n"
+        outputs = []
+        for model in (blocks, plain):
+            with tempfile.TemporaryDirectory() as folder:
+                program = StandIn(folder, analyze=(model, 0), detect=("0000000\\n0000011\\n1000010\\n", 0)).path
+                done = run([python, DECODE, "--program", program, "--shots", "3", CIRCUIT])
+            self.assertEqual((done.returncode, done.stderr), (0, b""))
+            outputs.append(done.stdout.decode())
+        self.assertEqual(outputs[0], outputs[1])
+        self.assertEqual(outputs[0], "detectors 6, observables 1, error lines 5\nshots 3, decoded wrongly 1: "
+                         "logical error rate 0.333333\nby the error model 0.000000\n")
 
     def test_without_numpy_it_says_what_to_install(self):
         with tempfile.TemporaryDirectory() as folder:
@@ -145,7 +179,7 @@ class Recipes(unittest.TestCase):
         program = find_program()
         recipes = re.findall(r"^```sh\n(.*?)^```", (TOP / "docs" / page).read_text(), re.MULTILINE | re.DOTALL)
         with tempfile.TemporaryDirectory() as folder:
-            for name in "examples", "tools":
+            for name in ("examples", "tools"):
                 os.symlink(TOP / name, Path(folder) / name)
             os.symlink(program, Path(folder) / "stabsim")
             (Path(folder) / "crates" / "stabsim" / "out").mkdir(parents=True)
