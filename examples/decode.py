@@ -3,9 +3,10 @@
 
     examples/decode.py --shots 1000000 --seed 5 examples/repetition_code.stim
 
-It runs `analyze` for the error model and `detect` for the shots. It needs numpy (Debian: python3-numpy, for /usr/bin/python3). The
-table has an entry for each set of detection events, so this is for codes with at most 20 detectors and observables; for larger
-ones there is tools/match.py. Exit statuses: 0 done, 1 refused or missing, as standard error says, 2 wrong options, 130 interrupted.
+It runs `analyze` for the error model and `detect` for the shots. It needs numpy (Debian: python3-numpy, for /usr/bin/python3).
+The table has an entry for each set of detection events, so this is for codes with at most 20 detectors and observables; for
+larger ones there is tools/match.py. Exit statuses: 0 done, 1 refused or missing, as standard error says, 2 wrong options, 130
+interrupted.
 """
 import argparse
 import subprocess

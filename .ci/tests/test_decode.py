@@ -152,7 +152,8 @@ class Decoding(unittest.TestCase):
     def test_a_model_with_blocks_is_decoded_as_without(self):
         """The code of three bits that is seen twice: D0 to D3 by the first block, and the observable by the shift behind it."""
         python = find_numpy_python()
-        blocks = "repeat 2 {\\nerror(0.1) D0\\nerror(0.1) D0 ^ D1\\nshift_detectors 2\\n}\\nshift_detectors 1\\nerror[x](0.2) D0 L0\\n"
+        blocks = ("repeat 2 {\\nerror(0.1) D0\\nerror(0.1) D0 ^ D1\\nshift_detectors 2\\n}\\n"
+                  "shift_detectors 1\\nerror[x](0.2) D0 L0\\n")
         plain = "error(0.1) D0\\nerror(0.1) D0 D1\\nerror(0.1) D2\\nerror(0.1) D2 D3\\nerror(0.2) D5 L0\\ndetector D4\\n"
         outputs = []
         for model in (blocks, plain):

@@ -15,8 +15,8 @@ READ = [
     ("error(1) D4 D4\nlogical_observable L2", [(1.0, (), ())], 5, 3, {}),
     ("detector(1, -2.5) D1\ndetector D3\n# detector D9\n\n}"[:-1], [], 4, 0, {1: (1, -2.5)}),
     ("repeat 3 {\n    error(0.1) D0 D1\n    shift_detectors 1\n}\n", [(0.1, (k, k + 1), ()) for k in range(3)], 4, 0, {}),
-    ("shift_detectors(5, 1) 2\nrepeat 2 {\n repeat 2 {\n  detector(1) D0\n  shift_detectors(0, 1) 1\n }\n shift_detectors(10) 0\n}\n"
-     "detector(1, 1, 1) D0\n", [], 7, 0, {2: (6,), 3: (6,), 4: (16,), 5: (16,), 6: (26, 6, 1)}),
+    ("shift_detectors(5, 1) 2\nrepeat 2 {\n repeat 2 {\n  detector(1) D0\n  shift_detectors(0, 1) 1\n }\n"
+     " shift_detectors(10) 0\n}\ndetector(1, 1, 1) D0\n", [], 7, 0, {2: (6,), 3: (6,), 4: (16,), 5: (16,), 6: (26, 6, 1)}),
     ("shift_detectors 999998\nerror(0) D1", [(0.0, (999999,), ())], 1000000, 0, {}),
 ]
 
