@@ -1,4 +1,4 @@
-"""What the tests run: the script, the built program, and a Python that has numpy."""
+"""What the tests run: the scripts, the built program, and a Python that has numpy, or networkx too."""
 import functools
 import importlib.util
 import os
@@ -12,6 +12,7 @@ from pathlib import Path
 TOP = Path(__file__).resolve().parents[2]
 FROM_STIM = TOP / "tools" / "from_stim.py"
 DECODE = TOP / "examples" / "decode.py"
+MATCH = TOP / "tools" / "match.py"
 
 sys.dont_write_bytecode = True  # so that its modules leave nothing among the tools
 sys.path.append(str(FROM_STIM.parent))
@@ -72,11 +73,15 @@ def find_program():
 
 
 @functools.cache
-def find_numpy_python():
-    """A Python with numpy; a test that needs it is skipped where there is none, unless REQUIRE_NUMPY is set."""
+def find_python(*modules):
+    """A Python with these modules; a test that needs it is skipped where there is none, unless REQUIRE_NUMPY is set."""
     for python in (sys.executable, shutil.which("python3"), "/usr/bin/python3"):
-        if python and os.access(python, os.X_OK) and run([python, "-c", "import numpy"]).returncode == 0:
+        if python and os.access(python, os.X_OK) and run([python, "-c", f"import {', '.join(modules)}"]).returncode == 0:
             return python
     if os.environ.get("REQUIRE_NUMPY"):
-        raise AssertionError("no Python with numpy, and REQUIRE_NUMPY is set")
-    raise unittest.SkipTest("no Python has numpy")
+        raise AssertionError(f"no Python with {' and '.join(modules)}, and REQUIRE_NUMPY is set")
+    raise unittest.SkipTest(f"no Python has {' and '.join(modules)}")
+
+
+def find_numpy_python():
+    return find_python("numpy")
