@@ -82,18 +82,21 @@ def draw(program, circuit, seed, shots, width):
     words = [program, "detect", "--shots", str(shots), "--seed", str(seed)]
     piece = max(1, min(PIECE, PIECE_BYTES // (width + 1)))
     with file_of(circuit) as source, subprocess.Popen(words, stdin=source, stdout=subprocess.PIPE) as process:
-        for begin in range(0, shots, piece):
-            size = min(piece, shots - begin) * (width + 1)
-            data = process.stdout.read(size)
-            rows = np.frombuffer(data[:len(data) // (width + 1) * (width + 1)], np.uint8).reshape(-1, width + 1)
-            if len(data) < size or (rows[:, :-1] & 254 != 48).any() or (rows[:, -1] != 10).any():
-                data += process.stdout.read(200)
-                process.stdout.close()
-                refuse_unless_done(words, process.wait(), data)
-                raise Refused(f"detect didn't write {shots} shots of {width} characters 0 or 1")
-            yield rows[:, :-1] - 48
-        process.stdout.close()
-        refuse_unless_done(words, process.wait(), b"")
+        try:
+            for begin in range(0, shots, piece):
+                size = min(piece, shots - begin) * (width + 1)
+                data = process.stdout.read(size)
+                rows = np.frombuffer(data[:len(data) // (width + 1) * (width + 1)], np.uint8).reshape(-1, width + 1)
+                if len(data) < size or (rows[:, :-1] & 254 != 48).any() or (rows[:, -1] != 10).any():
+                    data += process.stdout.read(200)
+                    process.stdout.close()
+                    refuse_unless_done(words, process.wait(), data)
+                    raise Refused(f"detect didn't write {shots} shots of {width} characters 0 or 1")
+                yield rows[:, :-1] - 48
+            process.stdout.close()
+            refuse_unless_done(words, process.wait(), b"")
+        finally:
+            process.kill()  # where an interrupt left it running
 
 
 def convert(text):

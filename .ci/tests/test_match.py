@@ -8,7 +8,7 @@ import sys
 import tempfile
 import time
 import unittest
-from contextlib import redirect_stderr
+from contextlib import redirect_stderr, suppress
 from io import StringIO
 from math import sqrt
 from pathlib import Path
@@ -327,13 +327,19 @@ class Failing(MatchTest):
             program, circuits = write_program(folder, {"code": {"analyze": (MODEL, 0)}})
             program.write_text(program.read_text().replace("cat ", "[ $1 = analyze ] || { touch draws; sleep 60; }\ncat ", 1))
             words = [find_python("numpy", "networkx"), str(MATCH), "--stabsim", str(program), str(circuits["code"])]
-            with subprocess.Popen(words, stdout=subprocess.PIPE, stderr=subprocess.PIPE, start_new_session=True) as process:
+            with open(Path(folder) / "told", "wb") as told:
+                process = subprocess.Popen(words, stdout=told, stderr=told, start_new_session=True)
+            try:
                 while not (Path(folder) / "draws").exists():
                     self.assertIsNone(process.poll())
                     time.sleep(0.02)
                 os.killpg(process.pid, signal.SIGINT)
-                _, errors = process.communicate(timeout=30)
-        self.assertEqual((process.returncode, errors), (130, b""))
+                self.assertEqual(process.wait(timeout=60), 130)
+            finally:
+                with suppress(ProcessLookupError):
+                    os.killpg(process.pid, signal.SIGKILL)  # the shell may have begun to sleep
+                process.wait()
+            self.assertEqual(len((Path(folder) / "told").read_text().splitlines()), 2)
 
 
 class RotatedCode(unittest.TestCase):
