@@ -122,6 +122,10 @@ def ends_with(module, words):
 
 
 class MatchTest(unittest.TestCase):
+    @classmethod
+    def setUpClass(cls):
+        find_program()  # so that .ci/test, which runs all tests without the program first, starts these processes once
+
     def rows(self, *words, **variables):
         done = match(*words, **variables)
         self.assertEqual((done.returncode, done.stderr), (0, b""))
@@ -246,6 +250,34 @@ class WithTheProgram(MatchTest):
                 self.assertAlmostEqual(rates[k] - below[k], row[3], delta=row[3] / 100)
                 self.assertAlmostEqual(rates[k] + above[k], row[4], delta=row[4] / 100)
         self.assertEqual([named for name, _, named in calls if name == "set"][0]["yscale"], "log")
+
+
+class Page(MatchTest):
+    """docs/DECODING.md: its commands as they are written, but for the one of the picture, which takes minutes."""
+
+    page = (TOP / "docs" / "DECODING.md").read_text()
+
+    def test_commands(self):
+        commands = re.findall(r"^    /usr/bin/python3 tools/match.py (.*)", self.page, re.MULTILINE)
+        self.assertEqual(len(commands), 3)
+        for command in commands:
+            if "--plot" not in command:
+                rows = self.rows("--stabsim", find_program(), *command.split())
+                self.assertTrue(rows)
+                self.check_shown(command, rows)
+
+    def check_shown(self, command, rows):
+        """Where the page shows what a command prints, it is that, but for some shots: of equal weights a library takes any."""
+        shown = re.search(re.escape(command) + r"\n\nprints\n\n((?:    .*\n)+)", self.page)
+        for name, cells in (rows_of(shown[1].replace("    ", "", 1).replace("\n    ", "\n").encode()) if shown else {}).items():
+            self.assertEqual(rows[name][:4], cells[:4])
+            self.assertLess(abs(int(rows[name][4]) - int(cells[4])), 0.05 * int(cells[4]))
+
+    def test_the_picture(self):
+        name = re.search(r"!\[[^\]]+\]\((.*)\)", self.page)[1]
+        content = (TOP / "docs" / name).read_bytes()
+        self.assertEqual(content[:8], b"\x89PNG\r\n\x1a\n")
+        self.assertLess(len(content), 60000)
 
 
 class Failing(MatchTest):

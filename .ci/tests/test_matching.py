@@ -12,7 +12,7 @@ from math import inf, log
 import stim_circuits
 from frame_models import write_model
 from programs import TOP, convert, find_python, load, run
-from test_decode import least_error_rate, read_errors, repetition_model
+from test_decode import read_errors, repetition_model
 
 choice, reader = (load(TOP / "tools" / f"{name}.py") for name in ("detector_choice", "error_model"))
 
@@ -123,33 +123,38 @@ class LeastWeight(unittest.TestCase):
     def test_many_events(self):
         """A strip of detectors, with all sets of events: their matching needs more than pairs of neighbours."""
         draws = random.Random(2)
-        errors = [(draws.choice([0.01, 0.02, 0.03, 0.2]), [k, k + 1], [0] * (k % 5 == 0)) for k in range(9)]
-        errors += [(draws.choice([0.01, 0.05]), [k, k + 2], [1] * (k % 3 == 0)) for k in range(8)]
-        errors += [(0.004, [0], []), (0.003, [9], [0])]
-        self.assertEqual(self.assert_least([(errors, 10, all_sets(10))]), 1 << 10)
+        errors = [(draws.choice([0.01, 0.02, 0.03, 0.2]), [k, k + 1], [0] * (k % 5 == 0)) for k in range(8)]
+        errors += [(draws.choice([0.01, 0.05]), [k, k + 2], [1] * (k % 3 == 0)) for k in range(7)]
+        errors += [(0.004, [0], []), (0.003, [8], [0])]
+        self.assertEqual(self.assert_least([(errors, 9, all_sets(9))]), 1 << 9)
 
 
 class Rates(unittest.TestCase):
     """How often matching is wrong: the probabilities of events and observables are added up over all sets of errors."""
 
-    def wrong_rate(self, errors, detectors):
-        sets = all_sets(detectors)
-        answers = decode_events([([(chance, sorted(flipped), [0] * value) for chance, flipped, value in errors], detectors, sets)])[0]
-        chances = {(frozenset(), 0): 1.0}
-        for chance, flipped, value in errors:
-            after = {}
-            for (events, observable), weight in chances.items():
-                for key, part in (((events, observable), 1 - chance), ((events ^ flipped, observable ^ value), chance)):
-                    after[key] = after.get(key, 0) + weight * part
-            chances = after
-        return sum(chances.get((frozenset(events), 1 - answer[0]), 0) for events, answer in zip(sets, answers) if answer)
+    def wrong_rates(self, cases):
+        """Of each case (errors, number of detectors) how often matching is wrong, and how often the likeliest observable is."""
+        rates = []
+        asked = [(errors, detectors, all_sets(detectors)) for errors, detectors in cases]
+        for (errors, _, sets), answers in zip(asked, decode_events(asked)):
+            chances = {(0, 0): 1.0}
+            for (events, observables), chance in merged(errors).items():
+                after = {key: part * (1 - chance) for key, part in chances.items()}
+                for (some, others), part in chances.items():
+                    key = some ^ events, others ^ observables
+                    after[key] = after.get(key, 0) + part * chance
+                chances = after
+            wrong = sum(chances.get((as_mask(events), 1 - answer[0]), 0) for events, answer in zip(sets, answers) if answer)
+            rates.append((wrong, sum(min(chances.get((as_mask(events), value), 0) for value in (0, 1)) for events in sets)))
+        return rates
 
     def test_repetition_codes_are_decoded_nearly_as_well_as_can_be(self):
-        converted = convert(stim_circuits.repetition_code(3, 4).replace("0.00", "0.01"))
-        for errors, detectors in ((repetition_model(), 8), (read_errors(write_model(converted)), 10)):
-            errors = [(chance, frozenset(flipped), value) for chance, flipped, value in errors]
-            least = least_error_rate(errors)
-            self.assertTrue(least * 0.999999 <= self.wrong_rate(errors, detectors) < least * 1.03)
+        converted = convert(stim_circuits.repetition_code(3, 3).replace("0.00", "0.01"))
+        cases = [([(chance, sorted(flipped), [0] * value) for chance, flipped, value in errors], 8)
+                 for errors in (repetition_model(), read_errors(write_model(converted)))]
+        for wrong, least in self.wrong_rates(cases):
+            self.assertGreater(least, 0.005)
+            self.assertTrue(least * 0.999999 <= wrong < least * 1.03)
 
     def test_likely_errors_are_taken_off_first(self):
         """Worked by hand: D0 L0 is flipped with 0.8, D0 alone with 0.1, D1 L0 always, and D1 with 1 and again with 0.6.
@@ -157,9 +162,8 @@ class Rates(unittest.TestCase):
         Of D0, an event means the one error or the other, and no event neither or both: the likelier is L0 with 0.8 * 0.9 of
         0.8 * 0.9 + 0.2 * 0.1, and no L0 with 0.2 * 0.9 of 0.2 * 0.9 + 0.8 * 0.1. D1 tells nothing.
         """
-        D0, D1 = frozenset([0]), frozenset([1])
-        errors = [(0.8, D0, 1), (0.1, D0, 0), (1.0, D1, 1), (1.0, D1, 0), (0.6, D1, 0)]
-        self.assertAlmostEqual(self.wrong_rate(errors, 2), 0.2 * 0.1 + 0.8 * 0.1)
+        errors = [(0.8, [0], [0]), (0.1, [0], []), (1.0, [1], [0]), (1.0, [1], []), (0.6, [1], [])]
+        self.assertAlmostEqual(self.wrong_rates([(errors, 2)])[0][0], 0.2 * 0.1 + 0.8 * 0.1)
 
 
 def kept_of(text):

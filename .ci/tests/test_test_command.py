@@ -63,7 +63,8 @@ class RunsAllTests(Case):
         self.write(f"{self.rt}/rt", RT, mode=0o755)
         self.write(f"{self.top}/.ci/wrong-bodies", BODIES, mode=0o755)
         self.write(f"{self.top}/.ci/tests/test_few.py", TESTS)
-        self.write(f"{self.room}/modules/numpy.py", "")
+        for name in ("numpy", "networkx"):
+            self.write(f"{self.room}/modules/{name}.py", "")
         os.symlink(sys.executable, f"{self.tools}/python3")
         self.write(f"{self.tools}/parallel", "#!/bin/sh\necho GNU parallel 1\n", mode=0o755)
         for name in ("grep", "tail", "tee"):
@@ -93,6 +94,26 @@ class RunsAllTests(Case):
                 called, bodies = self.calls()
                 self.assertRegex(called, r"^ci jobs [1-9][0-9]*$")
                 self.assertEqual(bodies, "bodies")
+
+    def test_what_is_missing_is_installed_by_root(self):
+        """The package of what isn't there, and no other; the tests begin where it then is there."""
+        apt = '#!/bin/sh\necho "$*" >>"$HERE/calls"\n[ -e "$HERE/offline" ] || [ "$1" = update ] || touch "$HERE/installed"\n'
+        self.write(f"{self.tools}/apt-get", apt, mode=0o755)
+        for module in ("numpy", "networkx"):
+            with self.subTest(module):
+                there = f"import os\nif not os.path.exists({self.rt + '/installed'!r}):\n    raise ImportError\n"
+                self.write(f"{self.room}/modules/{module}.py", there)
+                asked = ["update", f"install -y --no-install-recommends python3-{module}"] if os.geteuid() == 0 else []
+                self.ask("offline")
+                ended = self.assert_ends("0 passed, 1 failed")
+                self.assertIn(f"not found: python3-{module}\n".encode(), ended.stdout)
+                self.assertEqual(self.calls(), asked)
+                os.remove(f"{self.rt}/offline")
+                if asked:
+                    self.assert_ends("14 passed, 0 failed")
+                    self.assertEqual(self.calls()[:2], asked)
+                    os.remove(f"{self.rt}/installed")
+                self.write(f"{self.room}/modules/{module}.py", "")
 
     def test_a_failure_without_the_program_ends_it(self):
         self.ask("fails-alone")
