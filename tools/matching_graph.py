@@ -103,8 +103,6 @@ class ByNetworkx:
         self.nowhere = 1 + sum(map(graph.weight, graph.edges))
         self.boundary = self.find_paths(to_boundary)
         self.farthest = max((weight for weight, _ in self.boundary.values()), default=0)
-        if len(self.boundary) < len(self.neighbours):
-            self.farthest = self.nowhere
         self.find_gains = lru_cache(None)(self.find_gains)
         self.match_cluster = lru_cache(CACHED_CLUSTERS)(self.match_cluster)
 
@@ -123,33 +121,29 @@ class ByNetworkx:
         return found
 
     def to_boundary(self, node):
-        return self.boundary.get(node, (self.nowhere, None))
+        return self.boundary[node][0] if node in self.boundary else self.nowhere
 
     def find_gains(self, node):
         """The nodes worth matching with this one: by node, the gain and what the path flips."""
-        own = self.to_boundary(node)[0]
+        own = self.to_boundary(node)
         paths = self.find_paths([(0, node, 0)], own + self.farthest)
-        gains = {other: (own + self.to_boundary(other)[0] - weight, flipped) for other, (weight, flipped) in paths.items()}
+        gains = {other: (own + self.to_boundary(other) - weight, flipped) for other, (weight, flipped) in paths.items()}
         return {other: gain for other, gain in gains.items() if gain[0] > 0 and other != node}
 
     def match_cluster(self, events):
-        """What the errors of least weight flip that give these events, and their weight."""
-        graph, total, flipped = self.networkx.Graph(), 0, 0
+        """What errors of the least weight flip that give these events."""
+        graph, flipped, alone = self.networkx.Graph(), 0, set(events)
         for k, event in enumerate(events):
             gains = self.find_gains(event)
             graph.add_weighted_edges_from((event, other, gains[other][0]) for other in events[k + 1:] if other in gains)
-        alone = set(events)
         for first, second in self.networkx.max_weight_matching(graph) if len(events) > 2 else graph.edges:
-            gain, flips = self.find_gains(first)[second]
-            total += self.to_boundary(first)[0] + self.to_boundary(second)[0] - gain
-            flipped ^= flips
+            flipped ^= self.find_gains(first)[second][1]
             alone -= {first, second}
         for event in alone:
-            weight, flips = self.to_boundary(event)
-            if flips is None:
+            if event not in self.boundary:
                 raise CannotExplain
-            total, flipped = total + weight, flipped ^ flips
-        return total, flipped
+            flipped ^= self.boundary[event][1]
+        return flipped
 
     def clusters(self, events):
         """The events in groups, which pairs with a gain join."""
@@ -165,20 +159,14 @@ class ByNetworkx:
                 at += 1
             yield tuple(sorted(cluster))
 
-    def match(self, events):
-        """The least weight of errors that give these events, in units, and what they flip."""
-        total = flipped = 0
-        for cluster in self.clusters(events):
-            weight, flips = self.match_cluster(cluster)
-            total, flipped = total + weight, flipped ^ flips
-        return total, flipped
-
     def decode(self, events):
         found = np.zeros((len(events), self.observables), np.uint8)
         shots, nodes = np.nonzero(events)
         begins = np.flatnonzero(np.diff(shots, prepend=-1))
         for shot, part in zip(shots[begins], np.split(nodes, begins[1:])):
-            flipped = self.match(part.tolist())[1]
+            flipped = 0
+            for cluster in self.clusters(part.tolist()):
+                flipped ^= self.match_cluster(cluster)
             if flipped:
                 found[shot] = bits(flipped, self.observables)
         return found
@@ -190,7 +178,7 @@ class Decoder:
     def __init__(self, symptoms, observables, matcher):
         graph = MatchingGraph(symptoms)
         self.matcher = matcher(graph, observables)
-        self.detectors = sorted(graph.node_of, key=graph.node_of.get)
+        self.detectors = list(graph.node_of)
         self.usual_events = np.array([node in graph.usual_events for node in range(len(self.detectors))], np.uint8)
         self.usual_observables = np.array(bits(graph.usual_observables, observables), np.uint8)
 
@@ -204,8 +192,3 @@ def is_there(module):
     except ImportError:
         return False
     return True
-
-
-def find_matcher():
-    """The class that decodes by the library that is installed, or None."""
-    return next((matcher for matcher in (ByPyMatching, ByNetworkx) if is_there(matcher.name)), None)

@@ -154,16 +154,16 @@ class Counting(MatchTest):
     def test_the_interval_is_wilsons(self):
         """At its ends the rate that was found lies 1.96 standard deviations away."""
         with tempfile.TemporaryDirectory() as folder:
-            shots = {0: "000\n101\n111\n" + "010\n" * 2, 2: "000\n101\n100\n011\n111\n", 5: "100\n001\n110\n011\n100\n"}
+            shots = {0: "000\n101\n111\n", 1: "001\n101\n010\n", 3: "100\n001\n110\n"}
             program, circuits = write_program(folder, {wrong: {"analyze": (MODEL, 0), "detect": (text, 0)}
                                                        for wrong, text in shots.items()})
-            rows = self.rows("--stabsim", program, "--shots", "5", *circuits.values())
+            rows = self.rows("--stabsim", program, "--shots", "3", *circuits.values())
         for wrong, row in zip(shots, rows.values()):
             self.assertEqual(row[4], str(wrong))
             low, high = map(float, row[6:])
-            self.assertEqual((low == 0, high == 1), (wrong == 0, wrong == 5))
+            self.assertEqual((low == 0, high == 1), (wrong == 0, wrong == 3))
             for end in {low, high} - {0, 1}:
-                self.assertAlmostEqual(abs(end - wrong / 5) / sqrt(end * (1 - end) / 5), 1.959964, delta=0.02)
+                self.assertAlmostEqual(abs(end - wrong / 3) / sqrt(end * (1 - end) / 3), 1.959964, delta=0.02)
 
     def test_more_shots_than_a_run_draws_take_more_seeds(self):
         """Each second circuit's seeds follow the first one's."""
