@@ -81,7 +81,7 @@ def decode(options):
     events, actual = as_numbers(shots[:, :model.detectors]), as_numbers(shots[:, model.detectors:])
     wrong = int(np.count_nonzero(distribution.argmax(axis=0)[events] != actual))
     print(f"shots {options.shots}, decoded wrongly {wrong}: logical error rate {wrong / options.shots:.6f}")
-    print(f"by the error model {1 - distribution.max(axis=0).sum():.6f}", flush=True)
+    print(f"by the error model {1 - distribution.max(axis=0).sum():.6f}")
 
 
 def main():
@@ -90,11 +90,15 @@ def main():
     parser.add_argument("--shots", type=int, default=100000, help="at most 1000000 (default: 100000)")
     parser.add_argument("--seed", type=int, default=0, help="of the random numbers (default: 0)")
     parser.add_argument("--program", default=TOP / "stabsim", help="in place of ./stabsim")
-    options = parser.parse_args()
-    if options.shots < 1 or options.seed < 0:
-        parser.error("--shots takes a whole number from 1 on, --seed one from 0 on")
     try:
-        decode(options)
+        try:
+            options = parser.parse_args()
+            if options.shots < 1 or options.seed < 0:
+                parser.error("--shots takes a whole number from 1 on, --seed one from 0 on")
+            decode(options)
+        finally:
+            if sys.stdout:
+                sys.stdout.flush()  # here, where it may fail
     except (OSError, ValueError, error_model.ModelError) as reason:
         sys.stdout = None  # it may be what failed, and is not written again
         sys.exit(f"decode.py: {reason}")

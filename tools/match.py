@@ -295,7 +295,11 @@ def run():
 
 def main():
     try:
-        return run()
+        try:
+            return run()
+        finally:
+            if sys.stdout:
+                sys.stdout.flush()  # here, where it may fail
     except (OSError, MemoryError) as reason:
         tell(f"{reason.filename or 'standard output'}: {reason.strerror}" if isinstance(reason, OSError) else "memory ran out")
         if isinstance(reason, OSError) and not reason.filename and sys.stdout:

@@ -6,7 +6,8 @@
 Each kind has the same probability: depolarizing noise behind each gate, and on the data qubits before each round; a flip behind
 each reset, and before each measurement. tools/from_stim.py writes the circuit in the form that stabsim reads.
 
-This program is tested and NOT proved. Exit statuses: 0 done, 1 standard output was closed, 2 the options are wrong.
+This program is tested and NOT proved. Exit statuses: 0 done, 1 the circuit can't be written, 2 the options are wrong, 130
+interrupted.
 """
 import argparse
 import os
@@ -165,12 +166,19 @@ def main():
     parser.add_argument("--distance", type=distance, required=True, help=f"from 2 to {MOST_DISTANCE}")
     parser.add_argument("--probability", type=probability, required=True, help="of each kind of noise")
     parser.add_argument("--rounds", type=rounds, help="default: as many as the distance")
-    options = parser.parse_args()
     try:
-        print(write_circuit(options.distance, options.rounds or options.distance, options.probability), end="", flush=True)
-    except BrokenPipeError:
-        os.dup2(os.open(os.devnull, os.O_WRONLY), sys.stdout.fileno())
+        try:
+            options = parser.parse_args()
+            print(write_circuit(options.distance, options.rounds or options.distance, options.probability), end="")
+        finally:
+            if sys.stdout:
+                sys.stdout.flush()  # here, where it may fail
+    except OSError as reason:
+        print(f"rotated_code.py: standard output: {reason.strerror}", file=sys.stderr)
+        os.dup2(os.open(os.devnull, os.O_WRONLY), sys.stdout.fileno())  # it is flushed again at the end
         return 1
+    except KeyboardInterrupt:
+        return 130
     return 0
 
 

@@ -149,6 +149,17 @@ class Decoding(unittest.TestCase):
             self.assertIn(said, done.stderr)
             self.assertNotIn(b"Traceback", done.stderr)
 
+    def test_an_output_that_is_closed_or_full(self):
+        python = find_numpy_python()
+        with tempfile.TemporaryDirectory() as folder:
+            program = StandIn(folder, analyze=("error(0.1) D0\\n", 0), detect=("1\\n", 0)).path
+            command = f"{python} {DECODE} --program {program} --shots 1 {CIRCUIT}"
+            for redirected, said in (("| true; exit ${PIPESTATUS[0]}", b"Broken pipe"), ("> /dev/full", b"No space left")):
+                done = run(["env", "-u", "PYTHONUNBUFFERED", "bash", "-c", f"{command} {redirected}"])
+                self.assertEqual(done.returncode, 1, redirected)
+                self.assertIn(said, done.stderr)
+                self.assertEqual(done.stderr.count(b"\n"), 1)
+
     def test_a_model_with_blocks_is_decoded_as_without(self):
         """The code of three bits that is seen twice: D0 to D3 by the first block, and the observable by the shift behind it."""
         python = find_numpy_python()

@@ -19,6 +19,9 @@ from programs import FROM_STIM, MATCH, TOP, find_program, find_python, load, run
 from test_decode import CIRCUIT, StandIn, least_error_rate, repetition_model
 
 ROTATED_CODE = TOP / "tools" / "rotated_code.py"
+
+# In front of a command: what Python writes is kept until it is flushed, as where users run it.
+BUFFERED = ("env", "-u", "PYTHONUNBUFFERED")
 sys.path.insert(0, str(MATCH.parent))
 script, rotated_code = load(MATCH), load(ROTATED_CODE)
 
@@ -96,9 +99,9 @@ def write_program(folder, answers):
 
 
 def match(*words, **variables):
-    """What the script answers, in a Python with its libraries."""
+    """What the script answers, in a Python with its libraries and in the folder of the repository."""
     python = find_python("numpy", "networkx")
-    return run(["env", *(f"{name}={value}" for name, value in variables.items()), python, MATCH, *words])
+    return run(["env", "-C", TOP, *(f"{name}={value}" for name, value in variables.items()), python, MATCH, *words])
 
 
 def rows_of(output):
@@ -349,10 +352,18 @@ class Failing(MatchTest):
         python = find_python("numpy", "networkx")
         with tempfile.TemporaryDirectory() as folder:
             program, circuits = write_program(folder, {"code": {"analyze": (MODEL, 0), "detect": ("000\n101\n", 0)}})
-            command = f"{python} {MATCH} --stabsim {program} --shots 2 {circuits['code']}"
-            for redirected, said in (("| true; exit ${PIPESTATUS[0]}", "Broken pipe"), ("> /dev/full", "No space left")):
-                done = run(["bash", "-c", f"{command} {redirected}"])
-                self.assert_told(done, 1, said)
+            whole = f"{python} {MATCH} --stabsim {program} --shots 2 {circuits['code']}"
+            for command, said in (
+                (f"{whole} | true; exit ${{PIPESTATUS[0]}}", "Broken pipe"), (f"{whole} > /dev/full", "No space left"),
+                (f"{ROTATED_CODE} --distance 2 --probability 0 > /dev/full", "No space left"),
+            ):
+                with self.subTest(command=command):
+                    done = run([*BUFFERED, "bash", "-c", command])
+                    self.assert_told(done, 1, said)
+                    self.assertEqual(done.stderr.count(b"\n"), 1)
+            for path in (MATCH, ROTATED_CODE):  # some versions of argparse pass over a failure of help
+                done = run([*BUFFERED, "bash", "-c", f"{python} {path} --help > /dev/full"])
+                self.assertNotRegex(done.stderr, b"Traceback|Exception")
 
     def test_an_interrupt(self):
         with tempfile.TemporaryDirectory() as folder:

@@ -5,13 +5,15 @@ What is least is found here by going through all sets of errors, one error after
 import json
 import random
 import re
+import tempfile
 import unittest
 from itertools import product
-from math import inf, log
+from math import inf, log, sqrt
+from pathlib import Path
 
 import stim_circuits
 from frame_models import write_model
-from programs import TOP, convert, find_python, load, run
+from programs import MATCH, TOP, convert, find_program, find_python, load, run
 from test_decode import read_errors, repetition_model
 
 choice, reader = (load(TOP / "tools" / f"{name}.py") for name in ("detector_choice", "error_model"))
@@ -129,6 +131,18 @@ class LeastWeight(unittest.TestCase):
         self.assertEqual(self.assert_least([(errors, 9, all_sets(9))]), 1 << 9)
 
 
+def add_up(errors):
+    """The probability of each (events, observables), by bits, from merged errors."""
+    chances = {(0, 0): 1.0}
+    for (events, observables), chance in merged(errors).items():
+        after = {key: part * (1 - chance) for key, part in chances.items()}
+        for (some, others), part in chances.items():
+            key = some ^ events, others ^ observables
+            after[key] = after.get(key, 0) + part * chance
+        chances = after
+    return chances
+
+
 class Rates(unittest.TestCase):
     """How often matching is wrong: the probabilities of events and observables are added up over all sets of errors."""
 
@@ -137,13 +151,7 @@ class Rates(unittest.TestCase):
         rates = []
         asked = [(errors, detectors, all_sets(detectors)) for errors, detectors in cases]
         for (errors, _, sets), answers in zip(asked, decode_events(asked)):
-            chances = {(0, 0): 1.0}
-            for (events, observables), chance in merged(errors).items():
-                after = {key: part * (1 - chance) for key, part in chances.items()}
-                for (some, others), part in chances.items():
-                    key = some ^ events, others ^ observables
-                    after[key] = after.get(key, 0) + part * chance
-                chances = after
+            chances = add_up(errors)
             wrong = sum(chances.get((as_mask(events), 1 - answer[0]), 0) for events, answer in zip(sets, answers) if answer)
             rates.append((wrong, sum(min(chances.get((as_mask(events), value), 0) for value in (0, 1)) for events in sets)))
         return rates
@@ -164,6 +172,32 @@ class Rates(unittest.TestCase):
         """
         errors = [(0.8, [0], [0]), (0.1, [0], []), (1.0, [1], [0]), (1.0, [1], []), (0.6, [1], [])]
         self.assertAlmostEqual(self.wrong_rates([(errors, 2)])[0][0], 0.2 * 0.1 + 0.8 * 0.1)
+
+
+class OfShots(unittest.TestCase):
+    def test_the_rate_of_a_rotated_code_is_the_computed_one(self):
+        """Of two rounds, from the circuit to the rate. The least weights say what is decoded; where both values of the observable
+        have the same, either may be."""
+        layout = stim_circuits.rotated_layout(3)
+        text = convert(stim_circuits.surface_code("rotated", layout, "Z", 3, 2).replace("0.00", "0.01"))
+        model = reader.read_model(write_model(text))
+        kept = [detector for detector in range(model.detectors) if layout.kinds[model.coordinates[detector][:2]] == "Z"]
+        errors = [(chance, [kept.index(detector) for detector in detectors if detector in kept], observables)
+                  for chance, detectors, observables in model.errors]
+        least, low, high = least_weights(errors), 0, 0
+        for (events, value), chance in add_up(errors).items():
+            difference = least.get((events, value), inf) - least.get((events, 1 - value), inf)
+            low += chance * (difference > 1e-4)
+            high += chance * (difference > -1e-4)
+        self.assertTrue(0.03 < low <= high < 1.2 * low)
+        with tempfile.TemporaryDirectory() as folder:
+            path = Path(folder) / "code.stim"
+            path.write_text(text)
+            done = run([find_python("numpy", "networkx"), MATCH, "--stabsim", find_program(), "--shots", "20000", path])
+        shots, wrong = done.stdout.decode().splitlines()[2].split()[4:6]
+        error = 5 * sqrt(high / 20000)
+        self.assertTrue(low - error < int(wrong) / 20000 < high + error, (low, high, wrong))
+        self.assertEqual(shots, "20000")
 
 
 def kept_of(text):
@@ -202,8 +236,8 @@ class Choice(unittest.TestCase):
         self.assertEqual((kept, model.detectors), (set(range(24)), 24))
 
     def test_models_by_hand(self):
-        """The two kinds are D0 D2 and D1 D3, and D0 D1 is a product of both. D4 goes with D0 by a product, or by more than that."""
-        pairs = "error(0.1) D0 L0\nerror(0.1) D0 D2\nerror(0.1) D1 D3\nerror(0.1) D1\nerror(0.1) D0 D1 L0\nerror(0.1) D0 D1 D2 D3\n"
+        """The two kinds are D0 D2 and D1 D3, and D0 D1 is a product of both. D4 goes with D0 by a product, or by more."""
+        pairs = "".join(f"error(0.1) {flipped}\n" for flipped in ("D0 L0", "D0 D2", "D1 D3", "D1", "D0 D1 L0", "D0 D1 D2 D3"))
         rows = [
             (pairs, {0, 2}),
             (pairs + "error(0.1) D4\nerror(0.1) D0 D4 L0\n", {0, 2}),
@@ -217,7 +251,7 @@ class Choice(unittest.TestCase):
                 self.assertEqual(choice.choose_detectors(reader.read_model(text)), expected)
 
     def test_what_cant_be_matched_is_told(self):
-        pairs = "error(0.1) D0 L0\nerror(0.1) D0 D2\nerror(0.1) D1 D3\nerror(0.1) D1\nerror(0.1) D0 D1 D2 D3\n"
+        pairs = "".join(f"error(0.1) {flipped}\n" for flipped in ("D0 L0", "D0 D2", "D1 D3", "D1", "D0 D1 D2 D3"))
         for text, said in (
             (pairs + "error(0.1) D0 D1\n", "an error flips D0 D1 D2 D3, which seem to be of one kind"),
             (pairs + "error(0.1) D3 L1\n", "an error flips D0 D1 D2 D3, which seem to be of one kind"),

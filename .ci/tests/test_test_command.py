@@ -109,10 +109,9 @@ class RunsAllTests(Case):
                 self.assertIn(f"not found: python3-{module}\n".encode(), ended.stdout)
                 self.assertEqual(self.calls(), asked)
                 os.remove(f"{self.rt}/offline")
-                if asked:
+                if asked and module == "networkx":
                     self.assert_ends("14 passed, 0 failed")
                     self.assertEqual(self.calls()[:2], asked)
-                    os.remove(f"{self.rt}/installed")
                 self.write(f"{self.room}/modules/{module}.py", "")
 
     def test_a_failure_without_the_program_ends_it(self):
