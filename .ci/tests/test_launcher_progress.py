@@ -128,7 +128,7 @@ class Interrupted(Case):
             with self.subTest(number):
                 told = self.interrupted(number)
                 self.assertIn(b"low proved: 2 of 3 crates", told)
-                self.assertIn(b"stabsim: interrupted\nstabsim: the next call need not prove again what was proved", told)
+                self.assertIn(b"stabsim: interrupted\nstabsim: the next call proves again what rt has not kept", told)
 
     def test_an_interrupt_on_a_terminal_is_told_on_a_line_of_its_own(self):
         self.make_missing()
@@ -139,7 +139,7 @@ class Interrupted(Case):
         with os.fdopen(ours, "rb", buffering=0) as terminal:
             self.read_until(terminal, b"proved 2 of 3")
             os.killpg(started.pid, signal.SIGINT)
-            told = self.read_until(terminal, b"need not prove again")
+            told = self.read_until(terminal, b"proves again what rt has not kept")
         self.assertRegex(told, rb"\r\nstabsim: interrupted\r\n")
 
     def test_the_next_call_proves_what_is_left(self):

@@ -67,6 +67,7 @@ class RunsAllTests(Case):
             self.write(f"{self.room}/modules/{name}.py", "")
         os.symlink(sys.executable, f"{self.tools}/python3")
         self.write(f"{self.tools}/parallel", "#!/bin/sh\necho GNU parallel 1\n", mode=0o755)
+        self.write(f"{self.tools}/valgrind", "#!/bin/sh\n", mode=0o755)
         for name in ("grep", "tail", "tee"):
             os.symlink(shutil.which(name), f"{self.tools}/{name}")
 
@@ -113,6 +114,14 @@ class RunsAllTests(Case):
                     self.assert_ends("14 passed, 0 failed")
                     self.assertEqual(self.calls()[:2], asked)
                 self.write(f"{self.room}/modules/{module}.py", "")
+
+    def test_a_missing_command_is_told(self):
+        for name in ("parallel", "valgrind"):
+            with self.subTest(name):
+                os.rename(f"{self.tools}/{name}", f"{self.rt}/aside")
+                ended = self.assert_ends("0 passed, 1 failed")
+                self.assertIn(f"not found: {name}\n".encode(), ended.stdout)
+                os.rename(f"{self.rt}/aside", f"{self.tools}/{name}")
 
     def test_a_failure_without_the_program_ends_it(self):
         self.ask("fails-alone")
