@@ -1,9 +1,17 @@
-"""Circuits of quantum codes in the form that Stim's generators write, made from the codes' public descriptions.
+"""Circuits of quantum codes in the form that Stim's generators write, with noise of the four kinds that these offer.
 
-    python3 .ci/tests/stim_circuits.py FOLDER
+    python3 .ci/tests/stim_circuits.py surface_code rotated_memory_z 25 25 > code.stim     # code, task, distance, rounds
+    python3 .ci/tests/stim_circuits.py --examples examples/stim                            # the files of this folder
 
-writes the circuits of examples/stim into a folder. Each has noise of the four kinds that Stim's generators offer.
+Exit statuses: 0 done, 1 the circuit or a file couldn't be written, 2 a wrong command line.
+
+The circuits are made from the codes' descriptions, and weren't compared with Stim. This much is claimed: qubits have the numbers
+and coordinates that Stim's generators give them; of repetition codes and surface codes, instructions and their targets come in
+Stim's order. Of color codes the pairs of a layer and the last detectors may come in another order than Stim's.
+Comments are of this project.
 """
+import argparse
+import signal
 import sys
 from pathlib import Path
 
@@ -57,18 +65,22 @@ class Text:
         self.add(joined(f"DETECTOR({places})", *(f"rec[-{k}]" for k in back)))
 
     def repeat(self, turns, body):
-        self.add(f"REPEAT {turns} {{")
-        self.indent = "    "
-        body()
-        self.indent = ""
-        self.add("}")
+        """No turn is nothing, and one turn needs no block."""
+        if turns > 1:
+            self.add(f"REPEAT {turns} {{")
+            self.indent = "    "
+        if turns > 0:
+            body()
+        if turns > 1:
+            self.indent = ""
+            self.add("}")
 
-    def finish(self, code, task, distance, rounds, option=""):
+    def finish(self, code, task, distance, rounds):
         """The text, with a head that says what it is and how to convert the file of this name in examples/stim."""
         head = [
             "# A circuit in the form that Stim's generators write.",
             "#",
-            f"#     tools/from_stim.py{option} < examples/stim/{code}_{task}.stim > converted.stim",
+            f"#     tools/from_stim.py < examples/stim/{code}_{task}.stim > converted.stim",
             "#     ./stabsim analyze < converted.stim",
             "#",
             *(f"# {name}: {value}" for name, value in
@@ -108,20 +120,27 @@ def repetition_code(distance, rounds):
 
 
 class Layout:
-    """Where the data qubits and the checks of a surface code are, and in which order a check meets its data qubits."""
+    """Where the data qubits and the checks of a surface code are, and in which order a check meets its data qubits.
 
-    def __init__(self, data, checks, orders, observables):
-        self.data = sorted(data, key=lambda place: place[::-1])
-        self.checks = sorted(checks, key=lambda place: place[::-1])
+    Stim numbers qubits along rows, of the rotated code with gaps. It goes over qubits by their numbers, and over the checks of a
+    kind by their places, by x first.
+    """
+
+    def __init__(self, data, checks, orders, observables, number):
+        self.number = dict(sorted(((place, number(*place)) for place in [*data, *checks]), key=lambda pair: pair[1]))
+        self.data = [place for place in self.number if place not in checks]
+        self.checks = [place for place in self.number if place in checks]
         self.kinds, self.orders, self.observables = checks, orders, observables
-        places = sorted(self.data + self.checks, key=lambda place: place[::-1])
-        self.number = {place: k for k, place in enumerate(places)}
+
+    def of_kind(self, kind):
+        return sorted(check for check in self.checks if self.kinds[check] == kind)
 
     def neighbours(self, check):
         return [self.number.get((check[0] + dx, check[1] + dy)) for dx, dy in self.orders[self.kinds[check]]]
 
 
 def rotated_layout(distance):
+    """Data qubits at odd coordinates, and checks between them at even ones. A check's row is that of the data below it."""
     data = [(2 * x + 1, 2 * y + 1) for x in range(distance) for y in range(distance)]
     checks = {}
     for x in range(distance + 1):
@@ -131,27 +150,28 @@ def rotated_layout(distance):
                 checks[2 * x, 2 * y] = kind
     orders = {"Z": ((1, 1), (1, -1), (-1, 1), (-1, -1)), "X": ((1, 1), (-1, 1), (1, -1), (-1, -1))}
     observables = {"X": [place for place in data if place[0] == 1], "Z": [place for place in data if place[1] == 1]}
-    return Layout(data, checks, orders, observables)
+    return Layout(data, checks, orders, observables, lambda x, y: x + y // 2 * (2 * distance + 1))
 
 
 def unrotated_layout(distance):
+    """Data qubits and checks by turns, on a square with a qubit at each place."""
     size = range(2 * distance - 1)
     data = [(x, y) for x in size for y in size if x % 2 == y % 2]
     checks = {(x, y): "Z" if x % 2 == 0 else "X" for x in size for y in size if x % 2 != y % 2}
-    orders = {"Z": ((0, -1), (-1, 0), (1, 0), (0, 1)), "X": ((0, -1), (1, 0), (-1, 0), (0, 1))}
+    orders = dict.fromkeys("XZ", ((1, 0), (0, 1), (0, -1), (-1, 0)))
     observables = {"X": [place for place in data if place[0] == 0], "Z": [place for place in data if place[1] == 0]}
-    return Layout(data, checks, orders, observables)
+    return Layout(data, checks, orders, observables, lambda x, y: x + y * len(size))
 
 
 def surface_round(text, layout):
     number = layout.number
-    x_checks = [number[check] for check in layout.checks if layout.kinds[check] == "X"]
+    x_checks = sorted(number[check] for check in layout.of_kind("X"))
     text.begin_round([number[place] for place in layout.data])
     text.gate("H", x_checks)
     text.add("TICK")
     for k in range(4):
         pairs = []
-        for check in layout.checks:
+        for check in layout.of_kind("X") + layout.of_kind("Z"):
             data = layout.neighbours(check)[k]
             if data is not None:
                 pairs += (number[check], data) if layout.kinds[check] == "X" else (data, number[check])
@@ -165,7 +185,7 @@ def surface_round(text, layout):
 def surface_code(name, layout, basis, distance, rounds):
     text, count, number = Text(), len(layout.checks), layout.number
     data = [number[place] for place in layout.data]
-    own = [k for k, check in enumerate(layout.checks) if layout.kinds[check] == basis]
+    own = [layout.checks.index(check) for check in layout.of_kind(basis)]
 
     def later_round():
         surface_round(text, layout)
@@ -196,7 +216,7 @@ def color_code(distance, rounds):
     height = distance + (distance - 1) // 2
     places = [(x + y / 2, y, (x + 2 * y) % 3 == 2) for y in range(height) for x in range(height - y)]
     number = {(x, y): k for k, (x, y, _) in enumerate(places)}
-    data = [number[x, y] for x, y, is_face in places if not is_face]
+    data = {number[x, y]: y for x, y, is_face in places if not is_face}
     faces = [(x, y) for x, y, is_face in places if is_face]
     around = ((1, 0), (0.5, 1), (-0.5, 1), (-1, 0), (-0.5, -1), (0.5, -1))
     neighbours = {(x, y): [number.get((x + dx, y + dy)) for dx, dy in around] for x, y in faces}
@@ -207,7 +227,8 @@ def color_code(distance, rounds):
         text.gate("C_XYZ", data)
         text.add("TICK")
         for k in range(len(around)):
-            text.gate("CX", [q for face in faces if neighbours[face][k] is not None for q in (neighbours[face][k], number[face])])
+            met = [(neighbours[face][k], number[face]) for face in sorted(faces) if neighbours[face][k] is not None]
+            text.gate("CX", [q for pair in met for q in pair])
             text.add("TICK")
         text.measure_and_reset([number[face] for face in faces])
 
@@ -220,17 +241,19 @@ def color_code(distance, rounds):
     for place, qubit in number.items():
         text.add(f"QUBIT_COORDS({place[0]:g}, {place[1]}) {qubit}")
     text.reset("Z", range(len(places)))
-    one_round()
-    one_round()
+    text.repeat(2, one_round)
     for k, face in enumerate(faces):
         text.detector((*face, 0), (count - k, 2 * count - k))
     text.repeat(rounds - 2, later_round)
     finish_color_code(text, rounds, data, neighbours)
-    return text.finish("color_code", "memory_xyz", distance, rounds, " --scale 2")
+    return text.finish("color_code", "memory_xyz", distance, rounds)
 
 
 def finish_color_code(text, rounds, data, neighbours):
-    """The last round measured Z of each face, and the one before it X; Y of a face is their product."""
+    """The last round measured Z of each face, and the one before it X; Y of a face is their product.
+
+    `data` has the row of each data qubit. The observable is the lowest row, a side of the triangle.
+    """
     basis, count = "ZXY"[rounds % 3], len(neighbours)
     rounds_back = {"Z": (1,), "X": (2,), "Y": (1, 2)}[basis]
     text.measure(basis, data)
@@ -238,19 +261,60 @@ def finish_color_code(text, rounds, data, neighbours):
     for k, (face, qubits) in enumerate(neighbours.items()):
         seen = sorted(back[qubit] for qubit in qubits if qubit is not None)
         text.detector((*face, 1), seen + [len(data) + turn * count - k for turn in rounds_back])
-    text.add(joined("OBSERVABLE_INCLUDE(0)", *(f"rec[-{k}]" for k in sorted(back.values()))))
+    side = sorted(back[qubit] for qubit, row in data.items() if row == 0)
+    text.add(joined("OBSERVABLE_INCLUDE(0)", *(f"rec[-{k}]" for k in side)))
 
 
-CIRCUITS = {
-    "repetition_code_memory": repetition_code(3, 3),
-    "surface_code_rotated_memory_x": surface_code("rotated", rotated_layout(3), "X", 3, 3),
-    "surface_code_rotated_memory_z": surface_code("rotated", rotated_layout(3), "Z", 3, 3),
-    "surface_code_unrotated_memory_x": surface_code("unrotated", unrotated_layout(3), "X", 3, 3),
-    "surface_code_unrotated_memory_z": surface_code("unrotated", unrotated_layout(3), "Z", 3, 3),
-    "color_code_memory_xyz": color_code(3, 4),
+# The generators, by code and task: each makes a circuit of a distance with a number of rounds.
+GENERATORS = {
+    ("repetition_code", "memory"): repetition_code,
+    ("surface_code", "rotated_memory_x"): lambda d, rounds: surface_code("rotated", rotated_layout(d), "X", d, rounds),
+    ("surface_code", "rotated_memory_z"): lambda d, rounds: surface_code("rotated", rotated_layout(d), "Z", d, rounds),
+    ("surface_code", "unrotated_memory_x"): lambda d, rounds: surface_code("unrotated", unrotated_layout(d), "X", d, rounds),
+    ("surface_code", "unrotated_memory_z"): lambda d, rounds: surface_code("unrotated", unrotated_layout(d), "Z", d, rounds),
+    ("color_code", "memory_xyz"): color_code,
 }
+# The files of examples/stim, without their ending: all of distance 3.
+CIRCUITS = {f"{code}_{task}": make(3, 4 if code == "color_code" else 3) for (code, task), make in GENERATORS.items()}
+
+
+def check_size(code, distance, rounds):
+    """Why Stim's generators make no such circuit, or nothing."""
+    if code == "color_code" and (distance < 3 or distance % 2 == 0 or rounds < 2):
+        return "a color code has an odd distance of at least 3, and at least 2 rounds"
+    if distance < 2 or rounds < 1:
+        return "a code has a distance of at least 2, and at least 1 round"
+    return None
+
+
+def main():
+    parser = argparse.ArgumentParser(description="Write a circuit in the form that Stim's generators write.")
+    parser.add_argument("code", nargs="?", help="; ".join(f"{code} {task}" for code, task in GENERATORS))
+    parser.add_argument("task", nargs="?")
+    parser.add_argument("distance", nargs="?", type=int)
+    parser.add_argument("rounds", nargs="?", type=int)
+    parser.add_argument("--examples", metavar="FOLDER", help="write the files of examples/stim into this folder")
+    options = parser.parse_args()
+    if options.examples is not None:
+        if options.code is not None:
+            parser.error("--examples takes a folder and nothing else")
+        for name, text in CIRCUITS.items():
+            Path(options.examples, name + ".stim").write_text(text)
+        return
+    if options.rounds is None:
+        parser.error("needs a code, a task, a distance and a number of rounds, or --examples")
+    make = GENERATORS.get((options.code, options.task))
+    reason = check_size(options.code, options.distance, options.rounds) if make else "there is no such code with this task"
+    if reason:
+        parser.error(reason)
+    sys.stdout.write(make(options.distance, options.rounds))
+    sys.stdout.flush()
 
 
 if __name__ == "__main__":
-    for name, text in CIRCUITS.items():
-        Path(sys.argv[1], name + ".stim").write_text(text)
+    signal.signal(signal.SIGPIPE, signal.SIG_DFL)
+    signal.signal(signal.SIGINT, signal.SIG_DFL)
+    try:
+        main()
+    except (OSError, OverflowError, MemoryError) as reason:
+        sys.exit(f"stim_circuits.py: {reason or 'out of memory'}")

@@ -1,7 +1,12 @@
-"""Circuits in the form that Stim's generators write: converted, and analysed by the program."""
+"""Circuits in the form that Stim's generators write, examples/stim among them: converted, and analysed by the program."""
+import functools
+import os
 import re
+import sys
+import tempfile
 import unittest
 from fractions import Fraction
+from pathlib import Path
 
 import stim_circuits
 from exact_states import read_instructions
@@ -10,11 +15,9 @@ from programs import FROM_STIM, TOP, find_program, run
 
 LARGER = {
     "repetition_code 5 4": stim_circuits.repetition_code(5, 4),
-    "rotated X 5 2": stim_circuits.surface_code("rotated", stim_circuits.rotated_layout(5), "X", 5, 2),
     "unrotated Z 4 2": stim_circuits.surface_code("unrotated", stim_circuits.unrotated_layout(4), "Z", 4, 2),
     "color_code 5 3": stim_circuits.color_code(5, 3),
     "color_code 3 5": stim_circuits.color_code(3, 5),
-    "color_code 3 7": stim_circuits.color_code(3, 7),
 }
 # A round of distance 3 and more has this many checks, each with a detector a round, and the data measured at the end.
 CHECKS = {
@@ -26,6 +29,7 @@ CHECKS = {
 ROUNDS = {"color_code_memory_xyz": 4}
 
 
+@functools.lru_cache(None)
 def convert(text):
     done = run([FROM_STIM, "--scale", "2"], text.encode())
     if done.returncode:
@@ -39,10 +43,116 @@ def expected_detectors(name):
     return checks * (rounds + 1) if kind == "repetition_code" else checks * rounds
 
 
+# Lines of the circuits of distance 3, worked by hand from pictures of the codes with Stim's numbers at the qubits.
+LINES = {
+    "repetition_code_memory": ["R 0 1 2 3 4", "CX 0 1 2 3", "CX 2 1 4 3", "MR 1 3", "M 0 2 4"],
+    "surface_code_rotated_memory_z": [
+        "R 1 3 5 8 10 12 15 17 19", "R 2 9 11 13 14 16 18 25", "H 2 11 16 25",
+        "CX 2 3 16 17 11 12 15 14 10 9 19 18", "CX 2 1 16 15 11 10 8 14 3 9 12 18",
+        "CX 16 10 11 5 25 19 8 9 17 18 12 13", "CX 16 8 11 3 25 17 1 9 10 18 5 13", "MR 2 9 11 13 14 16 18 25",
+        "DETECTOR(0, 4, 0) rec[-4]", "DETECTOR(2, 2, 1) rec[-5] rec[-6] rec[-8] rec[-9] rec[-16]",
+        "OBSERVABLE_INCLUDE(0) rec[-7] rec[-8] rec[-9]"],
+    "surface_code_rotated_memory_x": [
+        "RX 1 3 5 8 10 12 15 17 19", "MX 1 3 5 8 10 12 15 17 19", "DETECTOR(2, 4, 0) rec[-3]",
+        "DETECTOR(4, 2, 1) rec[-4] rec[-5] rec[-7] rec[-8] rec[-15]", "OBSERVABLE_INCLUDE(0) rec[-3] rec[-6] rec[-9]"],
+    "surface_code_unrotated_memory_z": [
+        "H 1 3 11 13 21 23", "CX 1 2 11 12 21 22 3 4 13 14 23 24 6 5 16 15 8 7 18 17",
+        "CX 1 6 11 16 3 8 13 18 10 5 20 15 12 7 22 17 14 9 24 19", "CX 11 6 21 16 13 8 23 18 0 5 10 15 2 7 12 17 4 9 14 19",
+        "CX 1 0 11 10 21 20 3 2 13 12 23 22 6 7 16 17 8 9 18 19", "OBSERVABLE_INCLUDE(0) rec[-11] rec[-12] rec[-13]"],
+    "surface_code_unrotated_memory_x": ["RX 0 2 4 6 8 10 12 14 16 18 20 22 24", "OBSERVABLE_INCLUDE(0) rec[-3] rec[-8] rec[-13]"],
+    "color_code_memory_xyz": [
+        "C_XYZ 0 1 3 5 6 7 9", "CX 5 4 3 2", "CX 7 4 6 2", "CX 5 2 9 8", "CX 1 2 7 8", "CX 0 4 5 8", "CX 1 4 6 8", "MR 2 4 8",
+        "OBSERVABLE_INCLUDE(0) rec[-5] rec[-6] rec[-7]"],
+}
+# The qubits of the rotated code, at (x, y): row by row, with the gaps that Stim leaves.
+ROTATED = {(1, 1): 1, (2, 0): 2, (3, 1): 3, (5, 1): 5, (1, 3): 8, (2, 2): 9, (3, 3): 10, (4, 2): 11, (5, 3): 12, (6, 2): 13,
+           (0, 4): 14, (1, 5): 15, (2, 4): 16, (3, 5): 17, (4, 4): 18, (5, 5): 19, (4, 6): 25}
+COLOR = {(0, 0): 0, (1, 0): 1, (2, 0): 2, (3, 0): 3, (0.5, 1): 4, (1.5, 1): 5, (2.5, 1): 6, (1, 2): 7, (2, 2): 8, (1.5, 3): 9}
+
+
+def qubits_of(text):
+    """The qubits in the order of their lines, by their coordinates."""
+    return [(tuple(map(float, arguments)), int(targets[0])) for name, arguments, targets in read_instructions(text)
+            if name == "QUBIT_COORDS"]
+
+
+class Form(unittest.TestCase):
+    """Numbers and order of qubits as in the circuits of Stim's generators."""
+
+    def test_lines_worked_by_hand(self):
+        for name, lines in LINES.items():
+            written = {line.strip() for line in stim_circuits.CIRCUITS[name].split("\n")}
+            self.assertEqual([line for line in lines if line not in written], [], name)
+
+    def test_qubits_have_the_numbers_of_stim(self):
+        expected = {"color_code_memory_xyz": COLOR, "repetition_code_memory": {}}
+        for basis in "xz":
+            expected[f"surface_code_rotated_memory_{basis}"] = ROTATED
+            expected[f"surface_code_unrotated_memory_{basis}"] = {(k % 5, k // 5): k for k in range(25)}
+        for name, text in stim_circuits.CIRCUITS.items():
+            self.assertEqual(qubits_of(text), list(expected[name].items()), name)
+
+    def test_one_round_and_two_have_no_block(self):
+        """Of the color code none beside the block of the first two rounds."""
+        for (code, _), make in stim_circuits.GENERATORS.items():
+            is_color = code == "color_code"
+            self.assertEqual([make(3, rounds).count("REPEAT") for rounds in (2, 3, 4)], [1, 1, 2] if is_color else [0, 1, 1])
+            self.assertEqual([make(3, rounds).count(" MR ") for rounds in (2, 3, 4)], [1, 1, 2] if is_color else [0, 1, 1])
+            if not is_color:
+                self.assertEqual([make(3, rounds).count("\nMR ") for rounds in (1, 2, 3)], [1, 2, 1])
+
+
+class CommandLine(unittest.TestCase):
+    SCRIPT = TOP / ".ci" / "tests" / "stim_circuits.py"
+
+    def test_one_circuit(self):
+        done = run([sys.executable, self.SCRIPT, "surface_code", "rotated_memory_x", "3", "3"])
+        self.assertEqual((done.returncode, done.stderr), (0, b""))
+        self.assertEqual(done.stdout.decode(), stim_circuits.CIRCUITS["surface_code_rotated_memory_x"])
+
+    def test_files_of_the_examples(self):
+        with tempfile.TemporaryDirectory() as folder:
+            done = run([sys.executable, self.SCRIPT, "--examples", folder])
+            self.assertEqual((done.returncode, done.stdout, done.stderr), (0, b"", b""))
+            self.assertEqual({path.stem: path.read_text() for path in Path(folder).glob("*")}, stim_circuits.CIRCUITS)
+
+    def test_what_is_wrong_is_told(self):
+        code = ["surface_code", "rotated_memory_z"]
+        rows = [
+            ([], 2, "needs a code"),
+            ([*code, "3"], 2, "needs a code"),
+            (["surface_code", "memory", "3", "3"], 2, "no such code"),
+            ([*code, "1", "3"], 2, "at least 2"),
+            ([*code, "3", "0"], 2, "at least 1 round"),
+            ([*code, "3", "x"], 2, "invalid int"),
+            (["color_code", "memory_xyz", "4", "3"], 2, "odd"),
+            (["--examples", "/", *code], 2, "nothing else"),
+            (["--examples", "/dev/null"], 1, "Not a directory"),
+        ]
+        for words, status, said in rows:
+            done = run([sys.executable, self.SCRIPT, *words])
+            self.assertEqual((done.returncode, done.stdout), (status, b""), words)
+            self.assertIn(said, done.stderr.decode())
+            self.assertNotIn("Traceback", done.stderr.decode())
+
+
 class Examples(unittest.TestCase):
     def test_files_are_those_that_the_generator_writes(self):
         files = {path.stem: path.read_text() for path in (TOP / "examples" / "stim").glob("*")}
         self.assertEqual(files, stim_circuits.CIRCUITS)
+
+    def test_commands_of_their_heads(self):
+        program = find_program()
+        for name, text in stim_circuits.CIRCUITS.items():
+            commands = re.findall(r"^#     (.*)$", text, re.MULTILINE)
+            self.assertEqual(len(commands), 2)
+            with tempfile.TemporaryDirectory() as folder:
+                for part in ("examples", "tools"):
+                    os.symlink(TOP / part, Path(folder) / part)
+                os.symlink(program, Path(folder) / "stabsim")
+                done = run(["bash", "-c", f"cd {folder} && " + " && ".join(commands)])
+            self.assertEqual((done.returncode, done.stderr), (0, b""), name)
+            self.assertEqual(done.stdout.count(b"\ndetector("), expected_detectors(name), name)
 
     def test_each_has_all_four_kinds_of_noise(self):
         self.assertEqual(len(stim_circuits.CIRCUITS), 6)
