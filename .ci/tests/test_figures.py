@@ -16,7 +16,7 @@ STATEMENT, GATE, PROVED, ARCHITECTURE = "docs/STATEMENT.md", "docs/GATE.md", "do
 FROM_STIM, HELP = "docs/FROM_STIM.md", "crates/command_line/src/help.rt"
 REFUSALS, NUMBERS = "crates/unroll/src/refusals.rt", "crates/stim_parser/src/numbers.rt"
 
-NUMBER, DECIMAL, DATE = r"(\d[\d,_]*)", r"(\d+\.\d+)", r"\d{4}-\d\d-\d\d"
+NUMBER, DECIMAL, PLAIN, DATE = r"(\d[\d,_]*)", r"(\d+\.\d+)", r"\d+\.\d+", r"\d{4}-\d\d-\d\d"
 
 FIGURES = {
     "lines of definitions that a reader has to believe": [
@@ -210,10 +210,11 @@ class OfTheTree(PagesTest):
 
 
 class OfTheBenchmarks(PagesTest):
-    """Times that other pages quote from the table of docs/BENCH.md: that of the row, rounded."""
+    """Times that other pages quote from a table of docs/BENCH.md: that of the row, rounded."""
 
     QUOTED = [
-        (README, rf"distance 25 with 25 rounds took {DECIMAL} s", r"surface 25 25 \| analyze"),
+        (README, rf"the four kinds of noise of Stim's generators took {DECIMAL} s,", rf"25, 25 \| [\d,]+ \| {PLAIN}"),
+        (README, rf"and 1,000 shots {DECIMAL} s, on a Xeon of", rf"25, 25 \| [\d,]+ \| {PLAIN} \| {PLAIN}"),
     ]
 
     def test_times_are_those_of_the_benchmarks(self):

@@ -37,13 +37,19 @@ def convert(text):
     return done.stdout.decode()
 
 
+def count_faults(text):
+    """Once it is converted: three for each qubit of DEPOLARIZE1, and fifteen for each pair of DEPOLARIZE2."""
+    faults = {"DEPOLARIZE1": 3, "DEPOLARIZE2": Fraction(15, 2), "X_ERROR": 1, "Z_ERROR": 1}
+    return int(sum(faults.get(name, 0) * len(targets) for name, _, targets in read_instructions(text)))
+
+
 def expected_detectors(name):
     kind = next(kind for kind in CHECKS if name.startswith(kind))
     checks, rounds = CHECKS[kind](3), ROUNDS.get(name, 3)
     return checks * (rounds + 1) if kind == "repetition_code" else checks * rounds
 
 
-# Lines of the circuits of distance 3, worked by hand from pictures of the codes with Stim's numbers at the qubits.
+# Lines of the circuits of distance 3, in order, worked by hand from pictures of the codes with Stim's numbers at the qubits.
 LINES = {
     "repetition_code_memory": ["R 0 1 2 3 4", "CX 0 1 2 3", "CX 2 1 4 3", "MR 1 3", "M 0 2 4"],
     "surface_code_rotated_memory_z": [
@@ -53,7 +59,7 @@ LINES = {
         "DETECTOR(0, 4, 0) rec[-4]", "DETECTOR(2, 2, 1) rec[-5] rec[-6] rec[-8] rec[-9] rec[-16]",
         "OBSERVABLE_INCLUDE(0) rec[-7] rec[-8] rec[-9]"],
     "surface_code_rotated_memory_x": [
-        "RX 1 3 5 8 10 12 15 17 19", "MX 1 3 5 8 10 12 15 17 19", "DETECTOR(2, 4, 0) rec[-3]",
+        "RX 1 3 5 8 10 12 15 17 19", "DETECTOR(2, 4, 0) rec[-3]", "MX 1 3 5 8 10 12 15 17 19",
         "DETECTOR(4, 2, 1) rec[-4] rec[-5] rec[-7] rec[-8] rec[-15]", "OBSERVABLE_INCLUDE(0) rec[-3] rec[-6] rec[-9]"],
     "surface_code_unrotated_memory_z": [
         "H 1 3 11 13 21 23", "CX 1 2 11 12 21 22 3 4 13 14 23 24 6 5 16 15 8 7 18 17",
@@ -81,8 +87,8 @@ class Form(unittest.TestCase):
 
     def test_lines_worked_by_hand(self):
         for name, lines in LINES.items():
-            written = {line.strip() for line in stim_circuits.CIRCUITS[name].split("\n")}
-            self.assertEqual([line for line in lines if line not in written], [], name)
+            written = iter([line.strip() for line in stim_circuits.CIRCUITS[name].split("\n")])
+            self.assertEqual([line for line in lines if line not in written], [], f"{name} has not these lines in this order")
 
     def test_qubits_have_the_numbers_of_stim(self):
         expected = {"color_code_memory_xyz": COLOR, "repetition_code_memory": {}}
@@ -136,22 +142,61 @@ class CommandLine(unittest.TestCase):
             self.assertNotIn("Traceback", done.stderr.decode())
 
 
+class Copy(tempfile.TemporaryDirectory):
+    """A folder with what pages use, in which their commands are run."""
+
+    def __enter__(self):
+        program = find_program()
+        self.folder = Path(super().__enter__())
+        for part in (".ci", "examples", "tools"):
+            os.symlink(TOP / part, self.folder / part)
+        (self.folder / "crates" / "stabsim" / "out").mkdir(parents=True)
+        os.symlink(program, self.folder / "stabsim")
+        os.symlink(program, self.folder / "crates" / "stabsim" / "out" / "stabsim")
+        return self
+
+    def run(self, commands):
+        return run(["bash", "-c", f"cd {self.folder} && {commands}"])
+
+
+class Benchmarks(unittest.TestCase):
+    """The section of docs/BENCH.md on these circuits."""
+
+    def setUp(self):
+        page = (TOP / "docs" / "BENCH.md").read_text()
+        self.section = page.partition("\n## Circuits of Stim's generators\n")[2].partition("\n## ")[0]
+
+    def test_commands_of_the_section(self):
+        """With ten shots, as those of other pages."""
+        commands = re.search(r"^```sh\n(.*?)^```", self.section, re.MULTILINE | re.DOTALL)[1]
+        self.assertIn("--shots 1000", commands)
+        with Copy() as copy:
+            done = copy.run(commands.replace("--shots 1000", "--shots 10"))
+            self.assertEqual((done.returncode, done.stdout), (0, b""), done.stderr)
+            self.assertEqual(done.stderr.count(b"real"), 6)
+            for distance in (11, 25):
+                self.assertGreater((copy.folder / f"converted{distance}.stim").stat().st_size, 500_000)
+
+    def test_faults_of_the_section(self):
+        rows = re.findall(r"^\| (\d+), (\d+) \| ([\d,]+) \|", self.section, re.MULTILINE)
+        self.assertEqual([(distance, rounds) for distance, rounds, _ in rows], [("11", "11"), ("25", "25")])
+        for distance, rounds, faults in rows:
+            text = stim_circuits.GENERATORS["surface_code", "rotated_memory_z"](int(distance), int(rounds))
+            self.assertEqual(f"{count_faults(text):,}", faults)
+
+
 class Examples(unittest.TestCase):
     def test_files_are_those_that_the_generator_writes(self):
         files = {path.stem: path.read_text() for path in (TOP / "examples" / "stim").glob("*")}
         self.assertEqual(files, stim_circuits.CIRCUITS)
 
     def test_commands_of_their_heads(self):
-        program = find_program()
         for name, text in stim_circuits.CIRCUITS.items():
             commands = re.findall(r"^#     (.*)$", text, re.MULTILINE)
             self.assertEqual(len(commands), 2)
-            with tempfile.TemporaryDirectory() as folder:
-                for part in ("examples", "tools"):
-                    os.symlink(TOP / part, Path(folder) / part)
-                os.symlink(program, Path(folder) / "stabsim")
-                done = run(["bash", "-c", f"cd {folder} && " + " && ".join(commands)])
-            self.assertEqual((done.returncode, done.stderr), (0, b""), name)
+            with Copy() as copy:
+                done = copy.run(" && ".join(commands))
+            self.assertEqual(done.returncode, 0, (name, done.stderr))
             self.assertEqual(done.stdout.count(b"\ndetector("), expected_detectors(name), name)
 
     def test_each_has_all_four_kinds_of_noise(self):
