@@ -90,7 +90,7 @@ def read_arguments(name, arguments):
     least, most, _ = LINES[name]
     if not least <= len(texts) <= most:
         raise Refused(f"{name} takes {least} arguments, not {len(texts)}")
-    return read_probability(texts[0]) if name == "error" else tuple(map(read_number, texts))
+    return tuple(map(read_probability if name == "error" else read_number, texts))
 
 
 def read_count(text):
@@ -133,6 +133,11 @@ def write_decimal(value):
     """A number without an exponent, unless that would be long."""
     value = value.normalize()
     return format(value, "f" if abs(value.adjusted()) < 40 or not value else "e")
+
+
+def shorten(value):
+    """A number with 18 digits."""
+    return write_decimal(Decimal(f"{value:.18g}"))
 
 
 def round_probability(value):
@@ -250,7 +255,7 @@ class Reader:
         if targets and -targets[0] > self.observables:
             self.observables = -targets[0]
         if name == "error":
-            self.add_error(*arguments, targets)
+            self.add_error(*arguments[0], targets)
         elif name == "detector" and arguments and self.keep_coordinates:
             offset = self.offset[:len(arguments)] + [0] * (len(arguments) - len(self.offset))
             self.coordinates.update(dict.fromkeys(targets, tuple(value + move for value, move in zip(arguments, offset))))
@@ -291,41 +296,41 @@ def find_differences(ours, theirs, options):
              (("detectors", ours.detectors, theirs.detectors), ("observables", ours.observables, theirs.observables))
              if mine != other]
     for name, here, there in zip(options.models, (ours.symptoms, theirs.symptoms), (theirs.symptoms, ours.symptoms)):
-        alone = [(chance, symptom) for symptom, chance in here.items() if symptom not in there]
-        kinds += tell(f"symptoms in {label(name)} alone", alone, lambda symptom: f"{name_targets(symptom)}: {here[symptom]:.18g}")
-    greatest, apart = Decimal(0), []
+        alone = {symptom: chance for symptom, chance in here.items() if symptom not in there}
+        kinds += tell(f"symptoms in {label(name)} alone", alone,
+                      lambda symptom: f"{name_targets(symptom)}: {shorten(here[symptom])}")
+    greatest, apart = Decimal(0), {}
     for symptom, mine in ours.symptoms.items():
         other = theirs.symptoms.get(symptom, mine)
         if mine != other:
             relative = abs(mine - other) / max(mine, other)
             greatest = max(greatest, relative)
             if abs(mine - other) > options.tolerance * max(mine, other):
-                apart.append((relative, symptom))
-    kinds += tell("probabilities that differ", apart, lambda symptom:
-                  f"{name_targets(symptom)}: {ours.symptoms[symptom]:.18g} and {theirs.symptoms[symptom]:.18g}")
+                apart[symptom] = relative
+    kinds += tell("probabilities that differ", apart, lambda symptom: "{}: {} and {}, apart by {:.2g}".format(
+        name_targets(symptom), shorten(ours.symptoms[symptom]), shorten(theirs.symptoms[symptom]), apart[symptom]))
     if options.coordinates:
-        kinds += tell("coordinates that differ", find_moved(ours.coordinates, theirs.coordinates, options.tolerance),
-                      lambda detector: f"D{detector}: " + " and ".join(
-                          write_place(model.coordinates.get(detector, ())) for model in (ours, theirs)))
+        moved = find_moved(ours.coordinates, theirs.coordinates, options.tolerance)
+        kinds += tell("coordinates that differ", moved, lambda detector: f"D{detector}: " + " and ".join(
+            write_place(model.coordinates.get(detector, ())) for model in (ours, theirs)))
     return kinds, greatest
 
 
 def find_moved(ours, theirs, tolerance):
-    """The detectors that lie elsewhere, each behind how far: infinitely where one model has more coordinates than the other."""
-    moved = []
+    """How far each detector lies elsewhere: infinitely far where one model has more coordinates than the other."""
+    moved = {}
     for detector in sorted(ours.keys() | theirs.keys()):
         mine, other = ours.get(detector, ()), theirs.get(detector, ())
         if len(mine) != len(other):
-            moved.append((Decimal("Infinity"), detector))
+            moved[detector] = Decimal("Infinity")
         elif any(abs(a - b) > tolerance * max(1, abs(a), abs(b)) for a, b in zip(mine, other)):
-            moved.append((max(abs(a - b) for a, b in zip(mine, other)), detector))
+            moved[detector] = max(abs(a - b) for a, b in zip(mine, other))
     return moved
 
 
 def tell(kind, found, write):
-    """How many differences of a kind there are, and the worst, from (how bad, what) pairs."""
-    worst = nlargest(WORST, found, key=lambda pair: pair[0])
-    return [f"{kind}: {len(found)}"] + [f"    {write(what)}" for _, what in worst] if found else []
+    """How many differences of a kind there are, and the worst. `found` says how bad each is."""
+    return [f"{kind}: {len(found)}"] + [f"    {write(what)}" for what in nlargest(WORST, found, found.get)] if found else []
 
 
 def write_place(place):
