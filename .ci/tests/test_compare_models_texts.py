@@ -1,6 +1,7 @@
 """How tools/compare_models.py reads models: each form of a line, blocks, what it merges, and what it refuses."""
 import io
 import random
+import time
 import unittest
 from decimal import localcontext
 from fractions import Fraction
@@ -150,9 +151,9 @@ def read(text, keep_coordinates=False):
     return model, {script.name_targets(symptom): Fraction(chance) for symptom, chance in model.symptoms.items()}
 
 
-def refusal(text):
+def refusal(text, keep_coordinates=False):
     """The line that isn't read, and why; or None."""
-    reader = script.Reader(False)
+    reader = script.Reader(keep_coordinates)
     try:
         with localcontext(script.CONTEXT):
             reader.read(io.BytesIO(text.encode("latin-1")))
@@ -273,6 +274,20 @@ class Broken(unittest.TestCase):
         text = "repeat 20000 {\ndetector(" + ",1" * 997
         self.assertIsNone(refusal(text.replace("(,", "(1,") + ")\n}"))
         self.assertEqual(refusal(text.replace("(,", "(1,1,") + ")\n}")[0], 1)
+
+    def test_bytes_of_every_kind_and_long_texts_are_read_or_refused_soon(self):
+        long = 200_000
+        rows = [(bytes(range(256)), True), (b"\x00" * 99, True),
+                (b"# \xff\xfe\x00 {\n", False), (b"error[\xe9\x00](1) D0", False),
+                (b"error(0.1) D0" + b" " * long + b"{ x", True), (b"error" + b" " * long + b"(0.1) D0 x", True),
+                (b"error(0." + b"1" * long + b") D0", False), (b"error(0." + b"1" * long + b"x) D0", True),
+                (b"error(0.1) D" + b"0" * long + b"x", True), (b"error(0.1)" + b" D7" * long, False),
+                (b"detector(" + b"1," * long + b"1) D0\n" + b"detector(1) D0\n" * 9999, False), (b"error" + b"[" * long, True),
+                (b"shift_detectors(" + b"1," * long + b"1) 1\n" + b"detector(1) D0\n" * 9999, False)]
+        for data, refused in rows:
+            began = time.process_time()
+            self.assertEqual(refusal(data.decode("latin-1"), keep_coordinates=True) is not None, refused, data[:50])
+            self.assertLess(time.process_time() - began, 4, data[:50])
 
     def test_slips_are_read_or_refused_as_by_the_program(self):
         """It reads what the program reads, and names as many targets. What the program refuses it refuses, but for decimals
