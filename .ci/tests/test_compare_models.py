@@ -329,6 +329,12 @@ class Pages(Script):
         self.assertRegex(done.stdout.decode(), r"^code.dem: .*\nstim.dem: .*\ngreatest .*\nthe models agree\n$")
         (self.folder / "made.dem").write_text(files["made.dem"].replace("error(0.00", "error(0.01", 1))
         self.assertEqual(self.run_command(commands[0]).returncode, 1)
+        for made in ("code.dem", "stim.dem"):
+            (self.folder / made).unlink()
+        (self.folder / "yours.stim").write_text("H 0\nM 0\nDETECTOR rec[-1]\n")
+        done = self.run_command(commands[0])
+        self.assertEqual((done.returncode, done.stdout, done.stderr), (1, b"", b"random D0\n"))
+        self.assertFalse((self.folder / "code.dem").exists())
 
     def test_comparing_what_two_tools_wrote(self):
         commands = self.commands_of("COMPARED.md", "Checking another tool's model")
