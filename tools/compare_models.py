@@ -291,7 +291,9 @@ def read_file(name, keep_coordinates):
 # Comparing
 
 def find_differences(ours, theirs, options):
-    """The lines to write of each kind of difference, and the greatest relative difference of two probabilities."""
+    """The lines to write of each kind of difference, and the greatest relative difference of two probabilities.
+
+    Coordinates that weren't asked for weren't kept, so that none differ."""
     kinds = [f"numbers of {name} differ: {mine} and {other}" for name, mine, other in
              (("detectors", ours.detectors, theirs.detectors), ("observables", ours.observables, theirs.observables))
              if mine != other]
@@ -309,10 +311,9 @@ def find_differences(ours, theirs, options):
                 apart[symptom] = relative
     kinds += tell("probabilities that differ", apart, lambda symptom: "{}: {} and {}, apart by {:.2g}".format(
         name_targets(symptom), shorten(ours.symptoms[symptom]), shorten(theirs.symptoms[symptom]), apart[symptom]))
-    if options.coordinates:
-        moved = find_moved(ours.coordinates, theirs.coordinates, options.tolerance)
-        kinds += tell("coordinates that differ", moved, lambda detector: f"D{detector}: " + " and ".join(
-            write_place(model.coordinates.get(detector, ())) for model in (ours, theirs)))
+    moved = find_moved(ours.coordinates, theirs.coordinates, options.tolerance)
+    kinds += tell("coordinates that differ", moved, lambda detector: f"D{detector}: " + " and ".join(
+        write_place(model.coordinates.get(detector, ())) for model in (ours, theirs)))
     return kinds, greatest
 
 
@@ -343,11 +344,6 @@ def label(name):
     return "standard input" if name == "-" else name
 
 
-def describe(name, model):
-    return (f"{label(name)}: detectors {model.detectors}, observables {model.observables}, error lines {model.error_lines}, "
-            f"symptoms {len(model.symptoms)}")
-
-
 def write_merged(model):
     """The lines of a model that has each symptom once."""
     def order(symptom):
@@ -373,7 +369,8 @@ def write(lines):
 def compare(options):
     ours, theirs = (read_file(name, options.coordinates) for name in options.models)
     differences, greatest = find_differences(ours, theirs, options)
-    lines = [describe(name, model) for name, model in zip(options.models, (ours, theirs))]
+    lines = [f"{label(name)}: detectors {model.detectors}, observables {model.observables}, error lines {model.error_lines}, "
+             f"symptoms {len(model.symptoms)}" for name, model in zip(options.models, (ours, theirs))]
     lines.append(f"greatest relative difference of two probabilities: {greatest:.2g}")
     write([*lines, *differences, f"the models {'differ' if differences else 'agree'}"])
     return 1 if differences else 0
