@@ -276,18 +276,18 @@ class Broken(unittest.TestCase):
         self.assertEqual(refusal(text.replace("(,", "(1,1,") + ")\n}")[0], 1)
 
     def test_bytes_of_every_kind_and_long_texts_are_read_or_refused_soon(self):
-        long = 200_000
+        long = 50_000
         rows = [(bytes(range(256)), True), (b"\x00" * 99, True),
                 (b"# \xff\xfe\x00 {\n", False), (b"error[\xe9\x00](1) D0", False),
                 (b"error(0.1) D0" + b" " * long + b"{ x", True), (b"error" + b" " * long + b"(0.1) D0 x", True),
-                (b"error(0." + b"1" * long + b") D0", False), (b"error(0." + b"1" * long + b"x) D0", True),
+                (b"error(0." + b"1" * long + b") D0", False), (b"error(" + b"1" * long + b"x) D0", True),
                 (b"error(0.1) D" + b"0" * long + b"x", True), (b"error(0.1)" + b" D7" * long, False),
                 (b"detector(" + b"1," * long + b"1) D0\n" + b"detector(1) D0\n" * 9999, False), (b"error" + b"[" * long, True),
                 (b"shift_detectors(" + b"1," * long + b"1) 1\n" + b"detector(1) D0\n" * 9999, False)]
         for data, refused in rows:
             began = time.process_time()
             self.assertEqual(refusal(data.decode("latin-1"), keep_coordinates=True) is not None, refused, data[:50])
-            self.assertLess(time.process_time() - began, 4, data[:50])
+            self.assertLess(time.process_time() - began, 1, data[:50])
 
     def test_slips_are_read_or_refused_as_by_the_program(self):
         """It reads what the program reads, and names as many targets. What the program refuses it refuses, but for decimals
