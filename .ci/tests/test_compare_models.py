@@ -2,6 +2,7 @@
 import io
 import os
 import re
+import resource
 import signal
 import subprocess
 import sys
@@ -277,20 +278,15 @@ class Statuses(Script):
 
 
 class Memory(Script):
-    def peak(self, lines, text):
-        """Kilobytes at the peak, of the script that reads these many lines."""
-        path = self.folder / "model"
-        path.write_bytes(text.encode() * lines)
-        process = subprocess.Popen([*SCRIPT, "--merge", path], stdout=subprocess.DEVNULL)
-        _, status, usage = os.wait4(process.pid, 0)
-        process.returncode = status
-        self.assertEqual(status, 0)
-        return usage.ru_maxrss
-
     def test_memory_goes_by_symptoms_and_not_by_lines(self):
-        """30,000 lines of 1,000 bytes, which are one symptom: 30 MB."""
-        text = "error(0.001) D0 # " + "x" * 981 + "\n"
-        self.assertLess(self.peak(30_000, text), self.peak(1, text) + 5000)
+        """30,000 lines of 1,500 bytes, which are one symptom, are 45 MB, and the limit on data is 40 MB."""
+        path = self.folder / "model"
+        path.write_bytes((b"error(0.001) D0 # " + b"x" * 1481 + b"\n") * 30_000)
+        limit = 40 * 2**20
+        done = subprocess.run([*SCRIPT, "--merge", path], capture_output=True, timeout=SECONDS,
+                              preexec_fn=lambda: resource.setrlimit(resource.RLIMIT_DATA, (limit, limit)))
+        self.assertEqual((done.returncode, done.stderr), (0, b""))
+        self.assertEqual(done.stdout, b"error(0.5) D0\ndetector D0\n")
 
 
 class Pages(Script):
