@@ -1,0 +1,150 @@
+-- The moves back, by a cursor whose open blocks stand the outermost first.
+use Rattle.std.proofs.Common.{◌≡◌, ◌<◌, ◌≤◌, ◌+◌, ◌-◌, ℕ, zero, suc, List, [], ◌∷◌, ◌++◌, length, reverse, refl, ap, sym, subst, ◌∙◌, arith, None, Some}
+use Rattle.std.specs.Prelude.{slice_get}
+use Rattle.std.proofs.lemmas.List.{length-reverse}
+use Rattle.stim_lexer.specs.Trees.{Item, InstructionLine, BlockStart, BlockEnd, Tree}
+use Rattle.stim_lexer.specs.Flat.{tree_of, trees_of}
+use Rattle.stim_lexer.specs.Reached.{reached}
+use Rattle.cursor.specs.declared.cursor.Cursor.{Cursor}
+use Rattle.cursor.specs.declared.cursor.Level.{Level}
+use Rattle.cursor.specs.Places.{AreNested, AreOpen, IsPlace, StandsIn, levels_of, left_of, left_in, trees_at}
+use Rattle.cursor.specs.Moves.{GoesBackOver}
+use Rattle.cursor.specs.private.Backward.{IsReturning, PassesBack}
+use Rattle.cursor.specs.private.Blocks.{IsStarted, Spans}
+use Rattle.cursor.specs.private.Forward.{GoesTo}
+use Rattle.cursor.proofs.Back.{IsStart, MovedBack, back_out_of_empty, fewer_left, into_behind, into_earlier, out_of_first, room_behind, some_open_behind, start_at, taken_back}
+use Rattle.cursor.proofs.Before.{around, none_before, of_one_meaning, stands}
+use Rattle.cursor.proofs.CursorMoves.{innermost_first}
+use Rattle.cursor.proofs.Passing.{all_left, few_open}
+
+-- from an index and open blocks that are known to be these, to others
+carried : {I : Type 0} (items : List (Item I)) (h i : ℕ) (ks ls : List Level) (fresh j k : ℕ) (ms ns : List Level) (f : ℕ) → h ≡ i → ks ≡ ls → j ≡ k → ms ≡ ns → MovedBack items h ks fresh j ms f → MovedBack items i ls fresh k ns f
+carried items h i ks ls fresh j k ms ns f a b c d m =
+    subst (λ n. MovedBack items n ls fresh k ns f) a
+    (subst (λ (l : List Level). MovedBack items h l fresh k ns f) b
+    (subst (λ n. MovedBack items h ks fresh n ns f) c
+    (subst (λ (l : List Level). MovedBack items h ks fresh j l f) d m)))
+
+passes_back : {I : Type 0} (items : List (Item I)) (old new : Cursor) (h : ℕ) (ks : List Level) (fresh j : ℕ) (ms : List Level) (f : ℕ) → h ≡ old.index → ks ≡ levels_of old → j ≡ new.index → ms ≡ levels_of new → MovedBack items h ks fresh j ms f → PassesBack items old fresh new f
+passes_back items old new h ks fresh j ms f a b c d m =
+    let n = carried items h old.index ks (levels_of old) fresh j new.index ms (levels_of new) f a b c d m in
+    record { returning = n.returning; same = n.same; nearer = n.nearer }
+
+returning_at : {I : Type 0} (items : List (Item I)) (i j : ℕ) (ks ls : List Level) (fresh : ℕ) → i ≡ j → ks ≡ ls → IsReturning items i ks fresh → IsReturning items j ls fresh
+returning_at items i j ks ls fresh a b p =
+    subst (λ (l : List Level). IsReturning items j l fresh) b (subst (λ n. IsReturning items n ks fresh) a p)
+
+pub few_entered : {I : Type 0} (items : List (Item I)) (at : Cursor) (fresh : ℕ) → AreNested items → IsReturning items at.index (levels_of at) fresh → fresh ≤ 32
+few_entered items at fresh nested p = omega (arith, p.few, few_open items at.index (levels_of at) nested p.place)
+
+-- ---- into a block from behind
+
+module _ {I : Type 0} (items : List (Item I)) (old : Cursor) (fresh : ℕ) (nested : AreNested items) (p : IsReturning items old.index (levels_of old) fresh) (inside : 0 < old.index) where
+  behind_is : old.index ≡ suc (old.index - 1)
+  behind_is = omega arith
+
+  pub enters_behind : (new : Cursor) (body : ℕ) → slice_get items (old.index - 1) ≡ Some BlockEnd → Spans items body (old.index - 1) → IsStarted items body → new.index ≡ old.index - 1 → new.open.items ≡ old.open.items ++ record { body = body; left = 0 } ∷ []
+      → PassesBack items old fresh new (fresh + 1)
+  enters_behind new body item spans started i_is open_is =
+      let level : Level = record { body = body; left = 0 } in
+      let more : suc fresh ≡ fresh + 1 = omega arith in
+      subst (λ f. PassesBack items old fresh new f) more
+      (passes_back items old new (suc (old.index - 1)) (levels_of old) fresh (old.index - 1) (level ∷ levels_of old) (suc fresh)
+      (sym behind_is) refl (sym i_is) (sym (innermost_first old.open.items new.open.items level open_is))
+      (into_behind items (old.index - 1) (levels_of old) fresh body nested item spans started
+      (returning_at items old.index (suc (old.index - 1)) (levels_of old) (levels_of old) fresh behind_is refl p)))
+
+  pub room_for_last : slice_get items (old.index - 1) ≡ Some BlockEnd → length old.open.items < 32
+  room_for_last item =
+      let few : length (levels_of old) < 32 = room_behind items (old.index - 1) (levels_of old) nested item (subst (λ n. IsPlace items n (levels_of old)) behind_is p.place) in
+      omega (arith, length-reverse old.open.items)
+
+  -- ---- over the start of an iteration
+
+  pub some_popped_behind : (iterations : ℕ) → ((line : ℕ) × (slice_get items (old.index - 1) ≡ Some (BlockStart line iterations))) → 0 < length old.open.items
+  some_popped_behind iterations start =
+      let some : 0 < length (levels_of old) = some_open_behind items (old.index - 1) start.0 iterations (levels_of old) nested start.1 (subst (λ n. IsPlace items n (levels_of old)) behind_is p.place) in
+      omega (arith, length-reverse old.open.items)
+
+module _ {I : Type 0} (items : List (Item I)) (old : Cursor) (level : Level) (rest : List Level) (iterations : ℕ) (nested : AreNested items) (inside : 0 < old.index) (start : (line : ℕ) × (slice_get items (old.index - 1) ≡ Some (BlockStart line iterations))) (popped : old.open.items ≡ rest ++ level ∷ []) where
+  levels_are : levels_of old ≡ level ∷ reverse rest
+  levels_are = innermost_first rest old.open.items level popped
+
+  index_is : old.index ≡ suc (old.index - 1)
+  index_is = omega arith
+
+  there : (fresh : ℕ) → IsReturning items old.index (levels_of old) fresh → IsReturning items (suc (old.index - 1)) (level ∷ reverse rest) fresh
+  there fresh p = returning_at items old.index (suc (old.index - 1)) (levels_of old) (level ∷ reverse rest) fresh index_is levels_are p
+
+  started_at : (fresh : ℕ) → IsReturning items old.index (levels_of old) fresh → IsStart items (old.index - 1) start.0 iterations level (reverse rest)
+  started_at fresh p = start_at items (old.index - 1) start.0 iterations level (reverse rest) start.1 (there fresh p).place
+
+  pub left_fits : (fresh : ℕ) → IsReturning items old.index (levels_of old) fresh → level.left < iterations
+  left_fits fresh p = fewer_left items (old.index - 1) start.0 iterations level (reverse rest) (started_at fresh p)
+
+  pub body_deep : (fresh : ℕ) → IsReturning items old.index (levels_of old) fresh → 1 < length (trees_at items level.body)
+  body_deep fresh p = let o = started_at fresh p in omega (arith, ap length o.open_blocks.0.trees_are)
+
+  pub room_for_earlier : (fresh : ℕ) → IsReturning items old.index (levels_of old) fresh → length rest < 32
+  room_for_earlier fresh p = omega (arith, few_open items old.index (levels_of old) nested p.place, ap length levels_are, length-reverse rest)
+
+  moved : (new : Cursor) (fresh j : ℕ) (ms : List Level) (f : ℕ) → j ≡ new.index → ms ≡ levels_of new → MovedBack items (suc (old.index - 1)) (level ∷ reverse rest) fresh j ms f → PassesBack items old fresh new f
+  moved new fresh j ms f a b m =
+      passes_back items old new (suc (old.index - 1)) (level ∷ reverse rest) fresh j ms f (sym index_is) (sym levels_are) a b m
+
+  pub leaves_empty_back : (new : Cursor) (fresh : ℕ) → 0 < fresh → IsReturning items old.index (levels_of old) fresh → new.index ≡ old.index - 1 → new.open.items ≡ rest → PassesBack items old fresh new (fresh - 1)
+  leaves_empty_back new zero some p i_is open_is = absurd (omega arith)
+  leaves_empty_back new (suc fresh) some p i_is open_is =
+      let f : fresh ≡ suc fresh - 1 = omega arith in
+      let q = there (suc fresh) p in
+      subst (λ n. PassesBack items old (suc fresh) new n) f
+      (moved new (suc fresh) (old.index - 1) (reverse rest) fresh (sym i_is) (ap (λ (l : List Level). reverse l) (sym open_is))
+      (back_out_of_empty items (old.index - 1) start.0 iterations level (reverse rest) (started_at (suc fresh) p) fresh q.untouched q.few))
+
+  pub leaves_first : (new : Cursor) (fresh : ℕ) → fresh ≤ 0 → level.left + 1 ≡ iterations → IsReturning items old.index (levels_of old) fresh → new.index ≡ old.index - 1 → new.open.items ≡ rest → PassesBack items old fresh new 0
+  leaves_first new (suc fresh) none first p i_is open_is = absurd (omega arith)
+  leaves_first new zero none first p i_is open_is =
+      moved new 0 (old.index - 1) (reverse rest) 0 (sym i_is) (ap (λ (l : List Level). reverse l) (sym open_is))
+      (out_of_first items (old.index - 1) start.0 iterations level (reverse rest) (started_at 0 p) first)
+
+  pub leaves_to_earlier : (new : Cursor) (fresh : ℕ) → fresh ≤ 0 → (level.left + 1 ≡ iterations → ⊥) → Spans items level.body new.index → IsReturning items old.index (levels_of old) fresh
+      → new.open.items ≡ rest ++ record { body = level.body; left = level.left + 1 } ∷ [] → PassesBack items old fresh new 1
+  leaves_to_earlier new (suc fresh) none more spans p open_is = absurd (omega arith)
+  leaves_to_earlier new zero none more spans p open_is =
+      let iteration : Level = record { body = level.body; left = level.left + 1 } in
+      moved new 0 new.index (iteration ∷ reverse rest) 1 refl (sym (innermost_first rest new.open.items iteration open_is))
+      (into_earlier items (old.index - 1) start.0 iterations level (reverse rest) (started_at 0 p) new.index more spans)
+
+-- ---- over an instruction, and at the start
+
+pub takes_back : {I : Type 0} (items : List (Item I)) (old at new : Cursor) → AreNested items → StandsIn items old → GoesTo items old at → 0 < at.index → ((x : I) × (slice_get items (at.index - 1) ≡ Some (InstructionLine x))) → new.index ≡ at.index - 1 → new.open.items ≡ at.open.items
+    → StandsIn items new × GoesBackOver items old new (Some new.index)
+takes_back {I} items old at new nested p goes inside before i_is open_is =
+    let index_is : at.index ≡ suc (at.index - 1) = omega arith in
+    let t = taken_back items (at.index - 1) (levels_of at) before.0 before.1 (subst (λ n. IsPlace items n (levels_of at)) index_is goes.place) in
+    let ls : levels_of at ≡ levels_of new = ap (λ (l : List Level). reverse l) (sym open_is) in
+    let place : IsPlace items new.index (levels_of new) =
+    subst (λ n. IsPlace items n (levels_of new)) (sym i_is) (subst (λ (l : List Level). IsPlace items (at.index - 1) l) ls t.place) in
+    let left : left_of items new ≡ before.0 ∷ left_of items old =
+    ap (λ n. left_in items (trees_at items n) (levels_of new)) i_is
+    ∙ ap (λ (l : List Level). left_in items (trees_at items (at.index - 1)) l) (sym ls)
+    ∙ t.left
+    ∙ ap (λ n. before.0 ∷ left_in items (trees_at items n) (levels_of at)) (sym index_is)
+    ∙ ap (λ (xs : List I). before.0 ∷ xs) goes.same in
+    let s = stands items new nested place in
+    (s, (before.0, ap (λ n. slice_get items n) i_is ∙ before.1, around items before.0 new old left s))
+
+none_open : {I : Type 0} (items : List (Item I)) (levels : List Level) (behind : List (Tree I)) → length behind ≡ 0 → AreOpen items behind levels → levels ≡ []
+none_open items [] behind few are = refl
+none_open items (level ∷ levels) [] few are = absurd are
+none_open items (level ∷ levels) (u ∷ us) few are = absurd (omega arith)
+
+pub takes_none_back : {I : Type 0} (items : List (Item I)) (old at : Cursor) → AreNested items → StandsIn items old → GoesTo items old at → at.index ≡ 0 → StandsIn items at × GoesBackOver items old at None
+takes_none_back {I} items old at nested p goes i_is =
+    let trees : trees_at items at.index ≡ trees_of items = ap (λ n. trees_at items n) i_is in
+    let few : length goes.place.behind ≡ 0 = omega (arith, nested.closed, ap length trees, ap length goes.place.trees_are) in
+    let left : left_of items at ≡ reached (tree_of items) =
+    ap (λ (ts : List (Tree I)). left_in items ts (levels_of at)) trees
+    ∙ ap (λ (l : List Level). left_in items (trees_of items) l) (none_open items (levels_of at) goes.place.behind few goes.place.open_blocks)
+    ∙ all_left items nested in
+    (stands items at nested goes.place, (none_before items old (sym goes.same ∙ left), of_one_meaning items old at goes.same p))

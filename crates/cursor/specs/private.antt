@@ -1,0 +1,4 @@
+pub mod Marks
+pub mod Forward
+pub mod Blocks
+pub mod Backward

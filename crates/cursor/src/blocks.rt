@@ -1,0 +1,68 @@
+//! The other end of a block. It isn't kept, so the items between are counted through.
+
+ghost use Rattle.std.specs.Prelude.{◌≡◌, ◌<◌, ◌^◌, Some, suc, length, slice_get};
+ghost use Rattle.stim_lexer.specs.Trees.{BlockEnd};
+ghost use Rattle.cursor.specs.Places.{AreNested, trees_at};
+ghost use Rattle.cursor.specs.private.Blocks.{Spans, IsStarted};
+
+use crate::marks::{Mark, mark_at};
+use flat_lists::Short;
+use std::alloc::Allocator;
+use stim_lexer::Items;
+
+/// Where the body starts that ends here.
+pub(crate) fn body_before<O: Copy, T: Copy, S: Short<T>, A: Allocator + Copy>(
+    items: &Items<'_, O, T, S, A>,
+    end: usize,
+) -> usize
+    requires nested { AreNested items.now.items }
+    requires end { slice_get items.now.items end ≡ Some BlockEnd }
+    requires inside { end < length items.now.items }
+    ensures spans { Spans items.now.items result end }
+    ensures started { IsStarted items.now.items result }
+{
+    let mut body = end;
+    let mut depth: usize = 1;
+    while body > 0 {
+        match mark_at(items, body - 1) {
+            Mark::Instruction => {}
+            Mark::End => depth += 1,
+            Mark::Start { .. } => {
+                if depth == 1 {
+                    return body;
+                }
+                depth -= 1;
+            }
+        }
+        body -= 1;
+    }
+    unreachable!()
+}
+
+/// Where the body ends that starts here.
+pub(crate) fn end_behind<O: Copy, T: Copy, S: Short<T>, A: Allocator + Copy>(
+    items: &Items<'_, O, T, S, A>,
+    body: usize,
+) -> usize
+    requires nested { AreNested items.now.items }
+    requires inside { 1 < length (trees_at items.now.items body) }
+    ensures { Spans items.now.items body result }
+{
+    let count = items.len();
+    let mut end = body;
+    let mut depth: usize = 1;
+    while end < count {
+        match mark_at(items, end) {
+            Mark::Instruction => {}
+            Mark::Start { .. } => depth += 1,
+            Mark::End => {
+                if depth == 1 {
+                    return end;
+                }
+                depth -= 1;
+            }
+        }
+        end += 1;
+    }
+    unreachable!()
+}

@@ -1,0 +1,31 @@
+//! What kind of item stands at a place.
+
+ghost use Rattle.std.specs.Prelude.{◌<◌, length, slice_get};
+ghost use Rattle.cursor.specs.private.Marks.{IsMark};
+
+use flat_lists::Short;
+use std::alloc::Allocator;
+use stim_lexer::{Item, Items};
+
+/// An instruction, or the start or the end of a block.
+#[derive(Clone, Copy)]
+pub(crate) enum Mark {
+    Instruction,
+    Start { iterations: u64 },
+    End,
+}
+
+/// The kind of the item at a place.
+pub(crate) fn mark_at<O: Copy, T: Copy, S: Short<T>, A: Allocator + Copy>(
+    items: &Items<'_, O, T, S, A>,
+    i: usize,
+) -> Mark
+    requires { i < length items.now.items }
+    ensures { IsMark (slice_get items.now.items i) result }
+{
+    match items.get(i) {
+        Item::InstructionLine(_) => Mark::Instruction,
+        Item::BlockStart { turns, .. } => Mark::Start { iterations: turns },
+        Item::BlockEnd => Mark::End,
+    }
+}
