@@ -1,0 +1,9 @@
+use Rattle.std.proofs.Common.{length}
+use Rattle.cursor.specs.Places.{StandsIn, before_of}
+use Rattle.cursor.proofs.tests.backward.Given as goal
+
+abbrev pub invariant-loop-index : goal.invariant-loop-index
+invariant-loop-index l = StandsIn l.items.items l.cursor
+
+abbrev pub decreases-loop-index : goal.decreases-loop-index
+decreases-loop-index l = length (before_of l.items.items l.cursor)
