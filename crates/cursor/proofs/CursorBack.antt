@@ -14,25 +14,14 @@ use Rattle.cursor.specs.private.Blocks.{IsStarted, Spans}
 use Rattle.cursor.specs.private.Forward.{GoesTo}
 use Rattle.cursor.proofs.Back.{IsStart, MovedBack, back_out_of_empty, fewer_left, into_behind, into_earlier, out_of_first, room_behind, some_open_behind, start_at, taken_back}
 use Rattle.cursor.proofs.Before.{around, none_before, of_one_meaning, stands}
-use Rattle.cursor.proofs.CursorMoves.{innermost_first}
+use Rattle.cursor.proofs.CursorMoves.{carried, innermost_first}
 use Rattle.cursor.proofs.Passing.{all_left, few_open}
-
--- from an index and open blocks that are known to be these, to others
-carried : {I : Type 0} (items : List (Item I)) (h i : ℕ) (ks ls : List Level) (fresh j k : ℕ) (ms ns : List Level) (f : ℕ) → h ≡ i → ks ≡ ls → j ≡ k → ms ≡ ns → MovedBack items h ks fresh j ms f → MovedBack items i ls fresh k ns f
-carried items h i ks ls fresh j k ms ns f a b c d m =
-    subst (λ n. MovedBack items n ls fresh k ns f) a
-    (subst (λ (l : List Level). MovedBack items h l fresh k ns f) b
-    (subst (λ n. MovedBack items h ks fresh n ns f) c
-    (subst (λ (l : List Level). MovedBack items h ks fresh j l f) d m)))
 
 passes_back : {I : Type 0} (items : List (Item I)) (old new : Cursor) (h : ℕ) (ks : List Level) (fresh j : ℕ) (ms : List Level) (f : ℕ) → h ≡ old.index → ks ≡ levels_of old → j ≡ new.index → ms ≡ levels_of new → MovedBack items h ks fresh j ms f → PassesBack items old fresh new f
 passes_back items old new h ks fresh j ms f a b c d m =
-    let n = carried items h old.index ks (levels_of old) fresh j new.index ms (levels_of new) f a b c d m in
+    let n = carried (λ k l. MovedBack items k l fresh new.index (levels_of new) f) h old.index ks (levels_of old) a b
+    (carried (λ k l. MovedBack items h ks fresh k l f) j new.index ms (levels_of new) c d m) in
     record { returning = n.returning; same = n.same; nearer = n.nearer }
-
-returning_at : {I : Type 0} (items : List (Item I)) (i j : ℕ) (ks ls : List Level) (fresh : ℕ) → i ≡ j → ks ≡ ls → IsReturning items i ks fresh → IsReturning items j ls fresh
-returning_at items i j ks ls fresh a b p =
-    subst (λ (l : List Level). IsReturning items j l fresh) b (subst (λ n. IsReturning items n ks fresh) a p)
 
 pub few_entered : {I : Type 0} (items : List (Item I)) (at : Cursor) (fresh : ℕ) → AreNested items → IsReturning items at.index (levels_of at) fresh → fresh ≤ 32
 few_entered items at fresh nested p = omega (arith, p.few, few_open items at.index (levels_of at) nested p.place)
@@ -52,7 +41,7 @@ module _ {I : Type 0} (items : List (Item I)) (old : Cursor) (fresh : ℕ) (nest
       (passes_back items old new (suc (old.index - 1)) (levels_of old) fresh (old.index - 1) (level ∷ levels_of old) (suc fresh)
       (sym behind_is) refl (sym i_is) (sym (innermost_first old.open.items new.open.items level open_is))
       (into_behind items (old.index - 1) (levels_of old) fresh body nested item spans started
-      (returning_at items old.index (suc (old.index - 1)) (levels_of old) (levels_of old) fresh behind_is refl p)))
+      (subst (λ n. IsReturning items n (levels_of old) fresh) behind_is p)))
 
   pub room_for_last : slice_get items (old.index - 1) ≡ Some BlockEnd → length old.open.items < 32
   room_for_last item =
@@ -74,7 +63,7 @@ module _ {I : Type 0} (items : List (Item I)) (old : Cursor) (level : Level) (re
   index_is = omega arith
 
   there : (fresh : ℕ) → IsReturning items old.index (levels_of old) fresh → IsReturning items (suc (old.index - 1)) (level ∷ reverse rest) fresh
-  there fresh p = returning_at items old.index (suc (old.index - 1)) (levels_of old) (level ∷ reverse rest) fresh index_is levels_are p
+  there fresh p = carried (λ n l. IsReturning items n l fresh) old.index (suc (old.index - 1)) (levels_of old) (level ∷ reverse rest) index_is levels_are p
 
   started_at : (fresh : ℕ) → IsReturning items old.index (levels_of old) fresh → IsStart items (old.index - 1) start.0 iterations level (reverse rest)
   started_at fresh p = start_at items (old.index - 1) start.0 iterations level (reverse rest) start.1 (there fresh p).place
@@ -123,14 +112,11 @@ takes_back {I} items old at new nested p goes inside before i_is open_is =
     let index_is : at.index ≡ suc (at.index - 1) = omega arith in
     let t = taken_back items (at.index - 1) (levels_of at) before.0 before.1 (subst (λ n. IsPlace items n (levels_of at)) index_is goes.place) in
     let ls : levels_of at ≡ levels_of new = ap (λ (l : List Level). reverse l) (sym open_is) in
-    let place : IsPlace items new.index (levels_of new) =
-    subst (λ n. IsPlace items n (levels_of new)) (sym i_is) (subst (λ (l : List Level). IsPlace items (at.index - 1) l) ls t.place) in
+    let place : IsPlace items new.index (levels_of new) = carried (λ n l. IsPlace items n l) (at.index - 1) new.index (levels_of at) (levels_of new) (sym i_is) ls t.place in
+    let there : left_in items (trees_at items (at.index - 1)) (levels_of at) ≡ before.0 ∷ left_of items old =
+    t.left ∙ ap (λ n. before.0 ∷ left_in items (trees_at items n) (levels_of at)) (sym index_is) ∙ ap (λ (xs : List I). before.0 ∷ xs) goes.same in
     let left : left_of items new ≡ before.0 ∷ left_of items old =
-    ap (λ n. left_in items (trees_at items n) (levels_of new)) i_is
-    ∙ ap (λ (l : List Level). left_in items (trees_at items (at.index - 1)) l) (sym ls)
-    ∙ t.left
-    ∙ ap (λ n. before.0 ∷ left_in items (trees_at items n) (levels_of at)) (sym index_is)
-    ∙ ap (λ (xs : List I). before.0 ∷ xs) goes.same in
+    carried (λ n l. left_in items (trees_at items n) l ≡ before.0 ∷ left_of items old) (at.index - 1) new.index (levels_of at) (levels_of new) (sym i_is) ls there in
     let s = stands items new nested place in
     (s, (before.0, ap (λ n. slice_get items n) i_is ∙ before.1, around items before.0 new old left s))
 

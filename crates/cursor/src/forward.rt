@@ -24,7 +24,6 @@ impl Cursor {
         requires nested { AreNested items.now.items }
         requires passing { IsPassing items.now.items self.old.index (levels_of self.old) fresh }
         requires start { (line : ℕ) × (slice_get items.now.items self.old.index ≡ Some (BlockStart line iterations)) }
-        requires inside { self.old.index < length items.now.items }
         requires few { length items.now.items < 2 ^ 64 }
         ensures { Passes items.now.items self.old fresh self.new result }
     {
@@ -47,7 +46,6 @@ impl Cursor {
         requires nested { AreNested items.now.items }
         requires passing { IsPassing items.now.items self.old.index (levels_of self.old) fresh }
         requires end { slice_get items.now.items self.old.index ≡ Some BlockEnd }
-        requires inside { self.old.index < length items.now.items }
         requires few { length items.now.items < 2 ^ 64 }
         ensures { Passes items.now.items self.old fresh self.new result }
     {
