@@ -1,5 +1,6 @@
 -- The moves back, by a cursor whose open blocks stand the outermost first.
-use Rattle.std.proofs.Common.{◌≡◌, ◌<◌, ◌≤◌, ◌+◌, ◌-◌, ℕ, zero, suc, List, [], ◌∷◌, ◌++◌, length, reverse, refl, ap, sym, subst, ◌∙◌, arith, None, Some}
+use Rattle.std.proofs.Common.{◌≡◌, ◌<◌, ◌≤◌, ◌+◌, ◌-◌, ℕ, zero, suc, List, [], ◌∷◌, ◌++◌, length, reverse, refl, ap, sym, subst, ◌∙◌, arith, Option, None, Some}
+use Rattle.std.specs.Option.{option_to_list}
 use Rattle.std.specs.Prelude.{slice_get}
 use Rattle.std.proofs.lemmas.List.{length-reverse}
 use Rattle.stim_lexer.specs.Trees.{Item, InstructionLine, BlockStart, BlockEnd, Tree}
@@ -55,9 +56,9 @@ module _ {I : Type 0} (items : List (Item I)) (old : Cursor) (fresh : ℕ) (nest
       let some : 0 < length (levels_of old) = some_open_behind items (old.index - 1) start.0 iterations (levels_of old) nested start.1 (subst (λ n. IsPlace items n (levels_of old)) behind_is p.place) in
       omega (arith, length-reverse old.open.items)
 
-module _ {I : Type 0} (items : List (Item I)) (old : Cursor) (level : Level) (rest : List Level) (iterations : ℕ) (nested : AreNested items) (inside : 0 < old.index) (start : (line : ℕ) × (slice_get items (old.index - 1) ≡ Some (BlockStart line iterations))) (popped : old.open.items ≡ rest ++ level ∷ []) where
+module _ {I : Type 0} (items : List (Item I)) (old : Cursor) (level : Level) (rest : List Level) (iterations : ℕ) (nested : AreNested items) (inside : 0 < old.index) (start : (line : ℕ) × (slice_get items (old.index - 1) ≡ Some (BlockStart line iterations))) (answer : Option Level) (popped : old.open.items ≡ rest ++ option_to_list answer) (answer_is : answer ≡ Some level) where
   levels_are : levels_of old ≡ level ∷ reverse rest
-  levels_are = innermost_first rest old.open.items level popped
+  levels_are = innermost_first rest old.open.items level (popped ∙ ap (λ o. rest ++ option_to_list o) answer_is)
 
   index_is : old.index ≡ suc (old.index - 1)
   index_is = omega arith
@@ -106,9 +107,9 @@ module _ {I : Type 0} (items : List (Item I)) (old : Cursor) (level : Level) (re
 
 -- ---- over an instruction, and at the start
 
-pub takes_back : {I : Type 0} (items : List (Item I)) (old at new : Cursor) → AreNested items → StandsIn items old → GoesTo items old at → 0 < at.index → ((x : I) × (slice_get items (at.index - 1) ≡ Some (InstructionLine x))) → new.index ≡ at.index - 1 → new.open.items ≡ at.open.items
+pub takes_back : {I : Type 0} (items : List (Item I)) (old at new : Cursor) → StandsIn items old → GoesTo items old at → 0 < at.index → ((x : I) × (slice_get items (at.index - 1) ≡ Some (InstructionLine x))) → new.index ≡ at.index - 1 → new.open.items ≡ at.open.items
     → StandsIn items new × GoesBackOver items old new (Some new.index)
-takes_back {I} items old at new nested p goes inside before i_is open_is =
+takes_back {I} items old at new p goes inside before i_is open_is =
     let index_is : at.index ≡ suc (at.index - 1) = omega arith in
     let t = taken_back items (at.index - 1) (levels_of at) before.0 before.1 (subst (λ n. IsPlace items n (levels_of at)) index_is goes.place) in
     let ls : levels_of at ≡ levels_of new = ap (λ (l : List Level). reverse l) (sym open_is) in
@@ -117,7 +118,7 @@ takes_back {I} items old at new nested p goes inside before i_is open_is =
     t.left ∙ ap (λ n. before.0 ∷ left_in items (trees_at items n) (levels_of at)) (sym index_is) ∙ ap (λ (xs : List I). before.0 ∷ xs) goes.same in
     let left : left_of items new ≡ before.0 ∷ left_of items old =
     carried (λ n l. left_in items (trees_at items n) l ≡ before.0 ∷ left_of items old) (at.index - 1) new.index (levels_of at) (levels_of new) (sym i_is) ls there in
-    let s = stands items new nested place in
+    let s = stands items new p.nested place in
     (s, (before.0, ap (λ n. slice_get items n) i_is ∙ before.1, around items before.0 new old left s))
 
 none_open : {I : Type 0} (items : List (Item I)) (levels : List Level) (behind : List (Tree I)) → length behind ≡ 0 → AreOpen items behind levels → levels ≡ []
@@ -125,12 +126,12 @@ none_open items [] behind few are = refl
 none_open items (level ∷ levels) [] few are = absurd are
 none_open items (level ∷ levels) (u ∷ us) few are = absurd (omega arith)
 
-pub takes_none_back : {I : Type 0} (items : List (Item I)) (old at : Cursor) → AreNested items → StandsIn items old → GoesTo items old at → at.index ≡ 0 → StandsIn items at × GoesBackOver items old at None
-takes_none_back {I} items old at nested p goes i_is =
+pub takes_none_back : {I : Type 0} (items : List (Item I)) (old at : Cursor) → StandsIn items old → GoesTo items old at → at.index ≡ 0 → StandsIn items at × GoesBackOver items old at None
+takes_none_back {I} items old at p goes i_is =
     let trees : trees_at items at.index ≡ trees_of items = ap (λ n. trees_at items n) i_is in
-    let few : length goes.place.behind ≡ 0 = omega (arith, nested.closed, ap length trees, ap length goes.place.trees_are) in
+    let few : length goes.place.behind ≡ 0 = omega (arith, p.nested.closed, ap length trees, ap length goes.place.trees_are) in
     let left : left_of items at ≡ reached (tree_of items) =
     ap (λ (ts : List (Tree I)). left_in items ts (levels_of at)) trees
     ∙ ap (λ (l : List Level). left_in items (trees_of items) l) (none_open items (levels_of at) goes.place.behind few goes.place.open_blocks)
-    ∙ all_left items nested in
-    (stands items at nested goes.place, (none_before items old (sym goes.same ∙ left), of_one_meaning items old at goes.same p))
+    ∙ all_left items p.nested in
+    (stands items at p.nested goes.place, (none_before items old (sym goes.same ∙ left), of_one_meaning items old at goes.same p))

@@ -1,12 +1,7 @@
 -- A block among items: where its body starts, and where it ends.
 use Rattle.std.specs.Prelude.{◌≡◌, ◌<◌, ◌≤◌, ℕ, suc, List, length, drop, Some, slice_get}
-use Rattle.stim_lexer.specs.Trees.{Item, BlockStart, BlockEnd, Tree}
+use Rattle.stim_lexer.specs.Trees.{Item, BlockStart, BlockEnd}
 use Rattle.cursor.specs.Places.{trees_at}
-
--- these trees stand so deep at an index
-pub record IsDeep {I : Type 0} (items : List (Item I)) (i : ℕ) (behind : List (Tree I)) (depth : ℕ) : Type 0 where
-  pub some : 0 < depth
-  pub trees_are : drop depth (trees_at items i) ≡ behind
 
 -- a body that starts at an index ends at another, and not before
 pub record Spans {I : Type 0} (items : List (Item I)) (body end : ℕ) : Type 0 where

@@ -1,12 +1,6 @@
-use Rattle.std.proofs.Common.{◌≡◌, ◌++◌, ◌∷◌, [], ◌∙◌, ap, arith, refl}
-use Rattle.std.specs.Option.{option_to_list}
+use Rattle.std.proofs.Common.{arith, refl}
 use Rattle.cursor.proofs.CursorBack.{leaves_empty_back, leaves_first, leaves_to_earlier, left_fits, room_for_earlier, some_popped_behind}
-use Rattle.cursor.proofs.cursor.Cursor.leave_before.Given.{Over}
 use Rattle.cursor.proofs.cursor.Cursor.leave_before.Goals as goal
-use Rattle.cursor.proofs.cursor.Cursor.leave_before.Goals.{After-unwrap-level}
-
-popped : (g : Over) (c : After-unwrap-level g) → c.args.self.now.open.items ≡ c.pop.new.self.items ++ c.unwrap-level.result ∷ []
-popped g c = c.pop.ensures.items ∙ ap (λ o. c.pop.new.self.items ++ option_to_list o) c.unwrap-level.ensures
 
 pub unwrap-level-requires : goal.unwrap-level-requires
 unwrap-level-requires g c =
@@ -17,7 +11,7 @@ unwrap-level-requires g c =
 pub returns-then-fresh-gt0 : goal.returns-then-fresh-gt0
 returns-then-fresh-gt0 g c =
     leaves_empty_back c.args.items.now.items c.args.self.now c.unwrap-level.result c.pop.new.self.items c.args.iterations c.requires.nested
-    c.requires.inside c.requires.start (popped g (goal.at.returns-then-fresh-gt0 g c).After-unwrap-level) _ c.args.fresh c.if-fresh-gt0.true
+    c.requires.inside c.requires.start _ c.pop.ensures.items c.unwrap-level.ensures _ c.args.fresh c.if-fresh-gt0.true
     c.requires.returning refl refl
 
 pub overflow_add-level : goal.overflow_add-level
@@ -25,13 +19,13 @@ overflow_add-level g c =
     omega (
       arith,
       left_fits c.args.items.now.items c.args.self.now c.unwrap-level.result c.pop.new.self.items c.args.iterations c.requires.nested
-          c.requires.inside c.requires.start (popped g (goal.at.overflow_add-level g c).After-unwrap-level) c.args.fresh c.requires.returning,
+          c.requires.inside c.requires.start _ c.pop.ensures.items c.unwrap-level.ensures c.args.fresh c.requires.returning,
     )
 
 pub returns-then-level-iterations : goal.returns-then-level-iterations
 returns-then-level-iterations g c =
     leaves_first c.args.items.now.items c.args.self.now c.unwrap-level.result c.pop.new.self.items c.args.iterations c.requires.nested
-    c.requires.inside c.requires.start (popped g (goal.at.returns-then-level-iterations g c).After-unwrap-level) _ c.args.fresh c.if-fresh-gt0.false
+    c.requires.inside c.requires.start _ c.pop.ensures.items c.unwrap-level.ensures _ c.args.fresh c.if-fresh-gt0.false
     c.if-level-iterations.true c.requires.returning refl refl
 
 pub overflow_add-level-2 : goal.overflow_add-level-2
@@ -39,18 +33,18 @@ overflow_add-level-2 g c =
     omega (
       arith,
       left_fits c.args.items.now.items c.args.self.now c.unwrap-level.result c.pop.new.self.items c.args.iterations c.requires.nested
-          c.requires.inside c.requires.start (popped g (goal.at.overflow_add-level-2 g c).After-unwrap-level) c.args.fresh c.requires.returning,
+          c.requires.inside c.requires.start _ c.pop.ensures.items c.unwrap-level.ensures c.args.fresh c.requires.returning,
     )
 
 pub push-requires : goal.push-requires
 push-requires g c = (
   omega arith,
   room_for_earlier c.args.items.now.items c.args.self.now c.unwrap-level.result c.pop.new.self.items c.args.iterations c.requires.nested
-      c.requires.inside c.requires.start (popped g (goal.at.push-requires g c).After-unwrap-level) c.args.fresh c.requires.returning,
+      c.requires.inside c.requires.start _ c.pop.ensures.items c.unwrap-level.ensures c.args.fresh c.requires.returning,
 )
 
 pub returns : goal.returns
 returns g c =
     leaves_to_earlier c.args.items.now.items c.args.self.now c.unwrap-level.result c.pop.new.self.items c.args.iterations c.requires.nested
-    c.requires.inside c.requires.start (popped g (goal.at.returns g c).After-unwrap-level) _ c.args.fresh c.if-fresh-gt0.false
+    c.requires.inside c.requires.start _ c.pop.ensures.items c.unwrap-level.ensures _ c.args.fresh c.if-fresh-gt0.false
     c.if-level-iterations.false c.end_behind-self.ensures c.requires.returning c.push.ensures.items
