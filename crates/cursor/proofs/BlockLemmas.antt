@@ -1,12 +1,13 @@
 -- Counting through the items of a block, to its other end.
 use Rattle.std.proofs.Common.{◌≡◌, ◌<◌, ◌≤◌, ◌+◌, ◌-◌, inl, inr, ℕ, zero, suc, List, [], ◌∷◌, length, drop, refl, ap, sym, subst, ◌∙◌, arith, Some}
 use Rattle.std.specs.Prelude.{slice_get}
+use Rattle.std.proofs.lemmas.Bool.{cases_lt}
 use Rattle.std.proofs.lemmas.List.{length-drop}
 use Rattle.stim_lexer.specs.Trees.{Item, InstructionLine, BlockStart, BlockEnd, Tree}
 use Rattle.stim_lexer.specs.Flat.{onto}
 use Rattle.cursor.specs.Places.{AreNested, trees_at}
 use Rattle.cursor.specs.private.Blocks.{IsStarted, Spans}
-use Rattle.cursor.proofs.Inside.{low_or_high, one_more, one_place}
+use Rattle.cursor.proofs.Inside.{one_more, one_place}
 use Rattle.cursor.proofs.Passing.{at_item, at_end}
 
 -- from one index to another these trees stand deeper than at the end of the block, and so deep at `i`
@@ -67,9 +68,9 @@ item_before items from to (suc i) behind d nested e w = omega arith
 
 lower : {I : Type 0} (items : List (Item I)) (i to : ℕ) (us : List (Tree I)) → length us < length (trees_at items i) → ((j : ℕ) → suc i ≤ j → j ≤ to → length us < length (trees_at items j)) → (j : ℕ) → i ≤ j → j ≤ to → length us < length (trees_at items j)
 lower items i to us here over j low high =
-    elim (low_or_high j i) [
-      | inl last ↦ let same : i ≡ j = omega arith in subst (λ n. length us < length (trees_at items n)) same here
-      | inr more ↦ over j more high
+    elim (cases_lt i j) [
+      | inl more ↦ over j (omega arith) high
+      | inr last ↦ let same : i ≡ j = omega arith in subst (λ n. length us < length (trees_at items n)) same here
     ]
 
 -- over an item between, to the one before
@@ -127,9 +128,9 @@ begin_body items i more =
 
 pub item_at : {I : Type 0} (items : List (Item I)) (from i : ℕ) (behind : List (Tree I)) (d : ℕ) → IsWithin items from i i behind d → i < length items
 item_at items from i behind d w =
-    elim (low_or_high (length items) i) [
-      | inl past ↦ absurd (omega (arith, w.over i w.order (omega arith), w.some, ap length (at_end items i past)))
-      | inr within ↦ omega arith
+    elim (cases_lt i (length items)) [
+      | inl within ↦ within
+      | inr past ↦ absurd (omega (arith, w.over i w.order (omega arith), w.some, ap length (at_end items i past)))
     ]
 
 on_step : {I : Type 0} (items : List (Item I)) (from i : ℕ) (behind : List (Tree I)) (d e : ℕ) → 0 < e → drop d (trees_at items i) ≡ drop e (trees_at items (suc i)) → IsWithin items from i i behind d → IsWithin items from (suc i) (suc i) behind e
