@@ -6,7 +6,7 @@ use Rattle.std.proofs.lemmas.List.{length-drop}
 use Rattle.stim_lexer.specs.Trees.{Item, InstructionLine, BlockStart, BlockEnd, Tree}
 use Rattle.stim_lexer.specs.Flat.{onto}
 use Rattle.cursor.specs.Places.{AreNested, trees_at}
-use Rattle.cursor.specs.private.Blocks.{IsStarted, Spans}
+use Rattle.cursor.specs.private.Blocks.{Spans}
 use Rattle.cursor.proofs.Inside.{one_more, one_place}
 use Rattle.cursor.proofs.Passing.{at_item, at_end}
 
@@ -45,9 +45,6 @@ module _ {I : Type 0} (items : List (Item I)) (i d : ℕ) where
 
 deeper : {I : Type 0} (ts behind : List (Tree I)) (d : ℕ) → 0 < d → 0 < length behind → drop d ts ≡ behind → length behind < length ts
 deeper ts behind d h some e = omega (arith, length-drop d ts, ap length e)
-
-pub depth_fits : {I : Type 0} (items : List (Item I)) (from to i : ℕ) (behind : List (Tree I)) (d : ℕ) → AreNested items → IsWithin items from to i behind d → d ≤ 32
-depth_fits items from to i behind d nested w = omega (arith, length-drop d (trees_at items i), ap length w.trees_are, w.some, nested.shallow i)
 
 -- ---- back from the end
 
@@ -105,13 +102,6 @@ module _ {I : Type 0} (items : List (Item I)) (to i : ℕ) (behind : List (Tree 
       let some : 0 < d - 1 = omega (arith, w.deep) in
       let e : suc (d - 1) ≡ d = omega (arith, w.deep) in
       back_step items to (i - 1) behind d (d - 1) some (at_start items (i - 1) (d - 1) line iterations item some ∙ ap (λ n. drop n (trees_at items (suc (i - 1)))) e) there
-
-  pub started : (line iterations : ℕ) → slice_get items (i - 1) ≡ Some (BlockStart line iterations) → IsStarted items i
-  started line iterations item = record { start = i - 1; line = line; iterations = iterations; body_is = previous_is; start_is = item }
-
-pub spans_back : {I : Type 0} (items : List (Item I)) (end i d : ℕ) → slice_get items end ≡ Some BlockEnd → d ≡ 1 → IsWithin items i end i (trees_at items (suc end)) d → Spans items i end
-spans_back items end i d item one w =
-    record { from = w.order; end_is = item; trees_are = ap (λ n. drop n (trees_at items i)) (sym one) ∙ w.trees_are; over = w.over }
 
 -- ---- on from the start
 

@@ -72,9 +72,6 @@ module _ {I : Type 0} (items : List (Item I)) (old : Cursor) (level : Level) (re
   pub left_fits : (fresh : ℕ) → IsReturning items old.index (levels_of old) fresh → level.left < iterations
   left_fits fresh p = fewer_left items (old.index - 1) start.0 iterations level (reverse rest) (started_at fresh p)
 
-  pub body_deep : (fresh : ℕ) → IsReturning items old.index (levels_of old) fresh → 1 < length (trees_at items level.body)
-  body_deep fresh p = let o = started_at fresh p in omega (arith, ap length o.open_blocks.0.trees_are)
-
   pub room_for_earlier : (fresh : ℕ) → IsReturning items old.index (levels_of old) fresh → length rest < 32
   room_for_earlier fresh p = omega (arith, few_open items old.index (levels_of old) nested p.place, ap length levels_are, length-reverse rest)
 
