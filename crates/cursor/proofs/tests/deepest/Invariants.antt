@@ -1,4 +1,4 @@
-use Rattle.std.proofs.Common.{◌≡◌, ◌++◌, ◌∷◌, length, replicate}
+use Rattle.std.proofs.Common.{◌≡◌, ◌++◌, length, replicate}
 use Rattle.stim_lexer.specs.Trees.{BlockStart, BlockEnd}
 use Rattle.cursor.proofs.tests.deepest.Given as goal
 
