@@ -54,14 +54,15 @@ impl Cursor {
             self.index -= 1;
             return fresh - 1;
         }
-        if level.left + 1 == iterations {
+        let left = level.left + 1;
+        if left == iterations {
             self.index -= 1;
             return 0;
         }
         self.index = end_behind(items, level.body);
         self.open.push(Level {
             body: level.body,
-            left: level.left + 1,
+            left,
         });
         1
     }

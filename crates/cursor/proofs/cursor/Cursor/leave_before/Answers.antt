@@ -14,27 +14,19 @@ returns-then-fresh-gt0 g c =
     c.requires.inside c.requires.start _ c.pop.ensures.items c.unwrap-level.ensures _ c.args.fresh c.if-fresh-gt0.true
     c.requires.returning refl refl
 
-pub overflow_add-level : goal.overflow_add-level
-overflow_add-level g c =
+pub overflow_add-left : goal.overflow_add-left
+overflow_add-left g c =
     omega (
       arith,
       left_fits c.args.items.now.items c.args.self.now c.unwrap-level.result c.pop.new.self.items c.args.iterations c.requires.nested
           c.requires.inside c.requires.start _ c.pop.ensures.items c.unwrap-level.ensures c.args.fresh c.requires.returning,
     )
 
-pub returns-then-level-iterations : goal.returns-then-level-iterations
-returns-then-level-iterations g c =
+pub returns-then-left-iterations : goal.returns-then-left-iterations
+returns-then-left-iterations g c =
     leaves_first c.args.items.now.items c.args.self.now c.unwrap-level.result c.pop.new.self.items c.args.iterations c.requires.nested
     c.requires.inside c.requires.start _ c.pop.ensures.items c.unwrap-level.ensures _ c.args.fresh c.if-fresh-gt0.false
-    c.if-level-iterations.true c.requires.returning refl refl
-
-pub overflow_add-level-2 : goal.overflow_add-level-2
-overflow_add-level-2 g c =
-    omega (
-      arith,
-      left_fits c.args.items.now.items c.args.self.now c.unwrap-level.result c.pop.new.self.items c.args.iterations c.requires.nested
-          c.requires.inside c.requires.start _ c.pop.ensures.items c.unwrap-level.ensures c.args.fresh c.requires.returning,
-    )
+    c.if-left-iterations.true c.requires.returning refl refl
 
 pub push-requires : goal.push-requires
 push-requires g c = (
@@ -47,4 +39,4 @@ pub returns : goal.returns
 returns g c =
     leaves_to_earlier c.args.items.now.items c.args.self.now c.unwrap-level.result c.pop.new.self.items c.args.iterations c.requires.nested
     c.requires.inside c.requires.start _ c.pop.ensures.items c.unwrap-level.ensures _ c.args.fresh c.if-fresh-gt0.false
-    c.if-level-iterations.false c.end_behind-self.ensures c.requires.returning c.push.ensures.items
+    c.if-left-iterations.false c.end_behind-self.ensures c.requires.returning c.push.ensures.items
