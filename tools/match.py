@@ -100,8 +100,8 @@ def draw(program, circuit, seed, shots, width):
 
 
 def convert(text):
-    """A circuit of Stim in the form that stabsim reads."""
-    done = subprocess.run([sys.executable, str(TOOLS / "from_stim.py")], input=text.encode(), capture_output=True)
+    """A circuit of Stim in the form that stabsim reads, its qubits numbered without gaps: so distance 45 has few enough."""
+    done = subprocess.run([sys.executable, str(TOOLS / "from_stim.py"), "--renumber"], input=text.encode(), capture_output=True)
     if done.returncode != 0:
         raise Refused(f"from_stim.py ended with status {done.returncode}: {done.stderr[:200].decode('latin-1').strip()}")
     return done.stdout

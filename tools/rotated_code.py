@@ -4,7 +4,8 @@
     tools/rotated_code.py --distance 5 --probability 0.004 | tools/from_stim.py > code.stim
 
 Each kind has the same probability: depolarizing noise behind each gate, and on the data qubits before each round; a flip behind
-each reset, and before each measurement. tools/from_stim.py writes the circuit in the form that stabsim reads.
+each reset, and before each measurement. tools/from_stim.py writes the circuit in the form that stabsim reads; at distance 45, where
+Stim's numbers pass the greatest qubit, with --renumber.
 
 This program is tested and NOT proved. Exit statuses: 0 done, 1 the circuit can't be written, 2 the options are wrong, 130
 interrupted.
@@ -22,15 +23,15 @@ MOST_DISTANCE = 45  # with 4,049 qubits, of 4,096 that a circuit may have
 
 
 class RotatedCode:
-    """Where the qubits are: data at odd coordinates, checks at even ones. Numbers go by row, and within a row from the left."""
+    """Where the qubits are: data at odd coordinates, checks at even ones. Their numbers are Stim's, along rows and with gaps."""
 
     def __init__(self, distance):
         self.distance = distance
         odd = range(1, 2 * distance, 2)
         data = {(x, y): None for x in odd for y in odd}
         self.kinds = {**data, **self.find_checks()}
-        self.places = sorted(self.kinds, key=lambda place: place[::-1])
-        self.number = {place: number for number, place in enumerate(self.places)}
+        self.number = {(x, y): x + y // 2 * (2 * distance + 1) for x, y in self.kinds}
+        self.places = sorted(self.kinds, key=self.number.get)
         self.data = [place for place in self.places if self.kinds[place] is None]
         self.checks = [place for place in self.places if self.kinds[place]]
 
@@ -41,7 +42,8 @@ class RotatedCode:
         return {(x, y): kind for (x, y), kind in checks.items() if (x if kind == "X" else y) not in (0, last)}
 
     def of_kind(self, kind):
-        return [place for place in self.checks if self.kinds[place] == kind]
+        """Those checks by their places, by x first, as Stim goes over them."""
+        return sorted(place for place in self.checks if self.kinds[place] == kind)
 
     def around(self, check):
         """The data qubits round a check, in its order; None where there is none."""
@@ -52,7 +54,7 @@ class RotatedCode:
     def pairs(self, step):
         """The controlled gates of a step: each check of X controls its data qubit, each of Z is controlled by it."""
         found = []
-        for check in self.checks:
+        for check in self.of_kind("X") + self.of_kind("Z"):
             data = self.around(check)[step]
             if data:
                 found += [check, data] if self.kinds[check] == "X" else [data, check]
@@ -85,14 +87,15 @@ class Circuit:
 
     def one_round(self):
         code = self.code
+        x_checks = sorted(code.of_kind("X"), key=code.number.get)
         self.write("TICK")
         self.noise("DEPOLARIZE1", code.data)
-        self.gate("H", code.of_kind("X"))
+        self.gate("H", x_checks)
         self.write("TICK")
         for step in range(4):
             self.gate("CX", code.pairs(step))
             self.write("TICK")
-        self.gate("H", code.of_kind("X"))
+        self.gate("H", x_checks)
         self.write("TICK")
         self.noise("X_ERROR", code.checks)
         self.write("MR", code.checks)
@@ -105,19 +108,19 @@ class Circuit:
         self.reset(self.code.data)
         self.reset(self.code.checks)
         self.one_round()
-        for k, check in enumerate(self.code.checks):
-            if self.code.kinds[check] == "Z":
-                self.detector(check, 0, [len(self.code.checks) - k])
+        for check in self.code.of_kind("Z"):
+            self.detector(check, 0, [len(self.code.checks) - self.code.checks.index(check)])
 
     def repeat(self):
-        """The other rounds, in each of which a check is compared with the one before."""
+        """The other rounds, in each of which a check is compared with the one before. A single one needs no block."""
         first, count = len(self.lines), len(self.code.checks)
         self.one_round()
         self.write("SHIFT_COORDS(0, 0, 1)")
         for k, check in enumerate(self.code.checks):
             self.detector(check, 0, [count - k, 2 * count - k])
-        body = [f"    {line}" for line in self.lines[first:]]
-        self.lines[first:] = [f"REPEAT {self.rounds - 1} {{", *body, "}"]
+        if self.rounds > 2:
+            body = [f"    {line}" for line in self.lines[first:]]
+            self.lines[first:] = [f"REPEAT {self.rounds - 1} {{", *body, "}"]
 
     def end(self):
         """Measures the data qubits: the checks of Z once more, and the upper row, which is the observable."""
@@ -125,9 +128,9 @@ class Circuit:
         self.noise("X_ERROR", code.data)
         self.write("M", code.data)
         back = {place: count - k for k, place in enumerate(code.data)}
-        for k, check in enumerate(code.checks):
-            if code.kinds[check] == "Z":
-                self.detector(check, 1, sorted(back[place] for place in code.around(check) if place) + [count + checks - k])
+        for check in code.of_kind("Z"):
+            around = sorted(back[place] for place in code.around(check) if place)
+            self.detector(check, 1, [*around, count + checks - code.checks.index(check)])
         row = sorted(back[place] for place in code.data if place[1] == 1)
         self.lines.append(" ".join(["OBSERVABLE_INCLUDE(0)", *(f"rec[-{k}]" for k in row)]))
 
