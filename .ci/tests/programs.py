@@ -4,6 +4,7 @@ import importlib.util
 import os
 import re
 import shutil
+import signal
 import subprocess
 import sys
 import unittest
@@ -22,6 +23,11 @@ from stim_converter import Choices, Converter  # noqa: E402, found by the line a
 def run(words, data=b""):
     """A command's status, output and messages, by bytes."""
     return subprocess.run([str(word) for word in words], input=data, capture_output=True, timeout=300)
+
+
+def heed_interrupts():
+    """For what is started by a process that may ignore them, as one in the background of a script does."""
+    signal.signal(signal.SIGINT, signal.SIG_DFL)
 
 
 def load(path):

@@ -11,7 +11,7 @@ import unittest
 from pathlib import Path
 
 import stim_circuits
-from programs import FROM_STIM, TOP, Converter, convert, find_program, refusals, run
+from programs import FROM_STIM, TOP, Converter, convert, find_program, heed_interrupts, refusals, run
 from stim_text import SECTIONS
 
 PAGE = (TOP / "docs" / "FROM_STIM.md").read_text()
@@ -105,7 +105,7 @@ class Refusals(unittest.TestCase):
 
 class Streams(unittest.TestCase):
     def start(self, **streams):
-        return subprocess.Popen([sys.executable, FROM_STIM], stderr=subprocess.PIPE, **streams)
+        return subprocess.Popen([sys.executable, FROM_STIM], stderr=subprocess.PIPE, preexec_fn=heed_interrupts, **streams)
 
     def assert_told(self, process, said, status=1):
         written, told = process.communicate(timeout=60)
