@@ -147,7 +147,7 @@ def write_circuit(distance, rounds, probability):
 
 def probability(text):
     """An option's text, where it is a probability that Stim allows of each kind of noise."""
-    if not re.fullmatch(r"(\d+\.?\d*|\.\d+)([eE][-+]?\d{1,3})?", text) or float(text) > 0.75:
+    if not re.fullmatch(r"(\d+(\.\d*)?|\.\d+)([eE][-+]?\d{1,3})?", text) or float(text) > 0.75:
         raise argparse.ArgumentTypeError(f"{text!r} is no probability from 0 to 0.75")
     return text
 

@@ -8,8 +8,8 @@ from stim_text import Refused, shown
 setcontext(Context(prec=250, Emax=10**9, Emin=-(10**9)))
 READING = Context(prec=250, rounding=ROUND_DOWN, Emax=10**9, Emin=-(10**9))
 
-NUMBER = re.compile(r"[-+]?(\d+\.?\d*|\.\d+)([eE][-+]?\d{1,15})?")
-DECIMAL = re.compile(r"(\d+\.?\d*|\.\d+)([eE][-+]?\d{1,3})?")
+NUMBER = re.compile(r"[-+]?(\d+(\.\d*)?|\.\d+)([eE][-+]?\d{1,15})?")
+DECIMAL = re.compile(r"(\d+(\.\d*)?|\.\d+)([eE][-+]?\d{1,3})?")
 SIGNED_DECIMAL = re.compile(f"-?({DECIMAL.pattern})")
 
 

@@ -1,5 +1,6 @@
 """How tools/from_stim.py treats texts: numbers, what it keeps, and which lines it refuses."""
 import random
+import time
 import unittest
 
 from programs import FROM_STIM, TOP, convert, find_program, refusals, run, without_comments
@@ -118,6 +119,19 @@ class Numbers(unittest.TestCase):
         for before, after in rows.items():
             self.assertEqual(convert(f"X_ERROR({before}) 0"), f"X_ERROR({after}) 0")
             self.assertEqual(convert(f"error({before}) D0", is_model=True), f"error({after}) D0")
+
+    def test_long_numbers_are_read_or_refused_soon(self):
+        """A number that isn't one at its end; and a probability and a coordinate that stabsim doesn't read as they are."""
+        digits = "0" * 10_000
+        rows = [(f"X_ERROR({digits}x) 0", None), (f"X_ERROR({digits}e0000) 0", "X_ERROR(0) 0"),
+                (f"QUBIT_COORDS({digits}e0000) 0", "QUBIT_COORDS(0) 0")]
+        for text, expected in rows:
+            began = time.process_time()
+            if expected is None:
+                self.assertIn("no number", refusals(text)[0][1])
+            else:
+                self.assertEqual(convert(text), expected)
+            self.assertLess(time.process_time() - began, 1, text[:20])
 
     def test_the_rest_of_a_line_with_a_shorter_number_stays(self):
         self.assertEqual(convert("\tm[a #]( 0.12345678901234567899 )  !0  1 # flip"),

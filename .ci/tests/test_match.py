@@ -1,4 +1,4 @@
-"""tools/match.py as a process, with the built program and with stand-ins for it and for libraries; and tools/rotated_code.py."""
+"""tools/match.py as a process, with the built program and with stand-ins for it and for libraries."""
 import json
 import os
 import re
@@ -14,7 +14,6 @@ from math import sqrt
 from pathlib import Path
 from unittest import mock
 
-import stim_circuits
 from programs import FROM_STIM, MATCH, TOP, find_program, find_python, load, run
 from test_decode import CIRCUIT, StandIn, least_error_rate, repetition_model
 
@@ -23,7 +22,7 @@ ROTATED_CODE = TOP / "tools" / "rotated_code.py"
 # In front of a command: what Python writes is kept until it is flushed, as where users run it.
 BUFFERED = ("env", "-u", "PYTHONUNBUFFERED")
 sys.path.insert(0, str(MATCH.parent))
-script, rotated_code = load(MATCH), load(ROTATED_CODE)
+script = load(MATCH)
 
 MODEL = "error(0.1) D0 L0\nerror(0.01) D0\nerror(0.2) D1\ndetector D0\ndetector D1\nlogical_observable L0\n"
 
@@ -383,31 +382,6 @@ class Failing(MatchTest):
                     os.killpg(process.pid, signal.SIGKILL)  # the shell may have begun to sleep
                 process.wait()
             self.assertEqual(len((Path(folder) / "told").read_text().splitlines()), 2)
-
-
-class RotatedCode(unittest.TestCase):
-    def test_circuits_are_those_of_a_second_generator(self):
-        noise = dict(stim_circuits.NOISE)
-        self.addCleanup(stim_circuits.NOISE.update, noise)
-        for distance, rounds, probability in ((2, 2, "0.001"), (3, 4, "0.02"), (4, 3, "1e-3"), (5, 2, "0")):
-            stim_circuits.NOISE.update(dict.fromkeys(noise, probability))
-            text = stim_circuits.surface_code("rotated", stim_circuits.rotated_layout(distance), "Z", distance, rounds)
-            expected = "".join(f"{line}\n" for line in text.splitlines() if not line.startswith("#"))
-            with self.subTest(distance=distance, rounds=rounds):
-                self.assertEqual(rotated_code.write_circuit(distance, rounds, probability), expected)
-
-    def test_one_round_has_no_block(self):
-        text = run([ROTATED_CODE, "--distance", "3", "--rounds", "1", "--probability", "0.01"]).stdout.decode()
-        self.assertNotIn("REPEAT", text)
-        self.assertEqual(len(re.findall("DETECTOR", text)), 8)
-        three = run([ROTATED_CODE, "--distance", "3", "--probability", "0.01"]).stdout.decode()
-        self.assertIn("REPEAT 2 {", three)
-
-    def test_options(self):
-        for words in (["--distance", "1"], ["--distance", "46"], ["--probability", "x"], ["--probability", "-0.1"],
-                      ["--probability", "1e400"], ["--rounds", "0"]):
-            status, told = ends_with(rotated_code, ["--distance", "3", "--probability", "0.1", *words])
-            self.assertEqual((status, told[:9]), (2, "argument "), words)
 
 
 if __name__ == "__main__":
