@@ -33,100 +33,57 @@ line and the reason on standard error, where the answer can't be written, or whe
 """
 import argparse
 import gc
-import re
 import signal
 import sys
-from decimal import ROUND_HALF_EVEN, Context, Decimal, setcontext
-from functools import lru_cache
+from decimal import ROUND_HALF_EVEN, Decimal, setcontext
 from heapq import nlargest
 from typing import NamedTuple
 
-# Exponents are those of numbers that are read, of at most eight digits, and of their products.
-CONTEXT = Context(prec=1000, Emax=400_000_000, Emin=-400_000_000)
-MOST_UNROLLED, MOST_BLOCKS, WORST = 20_000_000, 32, 5
+from error_model import CONTEXT, Merger, ModelError, Reader, fold, read_number, split
 
-BLANKS = " \t\r"
-# A byte that is neither a blank nor printed is read as a question mark, which stands in no name, number or target either.
-READ_AS = bytes(byte if 32 <= byte < 127 or byte in b"\t\r" else ord(" " if byte == 10 else "?") for byte in range(256))
-HEAD = re.compile(r"[ \t\r]*([^ \t\r\[({}#]*)(?:[ \t\r]*\[[^\]]*\])?(?:[ \t\r]*\(([^)#]*)\))?")
-NUMBER = re.compile(r"[-+]?(?:[0-9]+(?:\.[0-9]*)?|\.[0-9]+)(?:[eE][-+]?0*[0-9]{1,8})?")
-COUNT, TARGET = re.compile(r"0*([0-9]{1,18})"), re.compile(r"([DL])0*([0-9]{1,18})")
-# How few and how many arguments each line takes, and which targets.
-ANY = 10**9
-LINES = {"error": (1, 1, "DL^"), "detector": (0, ANY, "D"), "logical_observable": (0, 0, "L"), "shift_detectors": (0, ANY, "")}
-HINTS = dict.fromkeys(("refused", "random", "usage"), ": stabsim gave an answer that is no model")
+WORST = 5
 
 
-class Refused(Exception):
-    """Why a line can't be read."""
+class Model(NamedTuple):
+    """What a text says: the probability of each symptom that has one, and the coordinates of each detector that has some."""
+    detectors: int
+    observables: int
+    error_lines: int
+    symptoms: dict
+    coordinates: dict
 
 
-def shown(text):
-    """A text of the input, cut to what a message has room for."""
-    return repr(text if len(text) <= 40 else text[:40] + "...")
+def read_merged(lines, keep_coordinates):
+    """The model of these lines, which are bytes; or a ModelError."""
+    merger = Merger()
+    reader = Reader(merger.add, fold, keep_coordinates)
+    reader.read(lines)
+    symptoms = merger.merged()
+    symptoms.pop((), None)  # errors that flip nothing
+    return Model(reader.detectors, reader.observables, reader.error_lines, symptoms, reader.coordinates)
 
 
-# Numbers and targets. A detector is its number, and the observable k is -1 - k, so that both are one sorted list.
-
-def read_number(text):
-    if not NUMBER.fullmatch(text):
-        raise Refused(f"{shown(text)} is no number")
-    return +Decimal(text)
-
-
-def read_probability(text):
-    """A probability p, or 1 - p where that is less, so that rounding keeps its digits; 1 less twice that; and which of them."""
-    value = read_number(text)
-    if not 0 <= value <= 1:
-        raise Refused(f"{shown(text)} is no probability")
-    least = min(value, 1 - value)
-    return least, 1 - 2 * least, value > least
+def read_file(name, keep_coordinates):
+    """The model of a file. What can't be read ends the program."""
+    try:
+        with open(0 if name == "-" else name, "rb", closefd=name != "-") as lines:
+            return read_merged(lines, keep_coordinates)
+    except ModelError as refused:
+        fail(f"{label(name)}: {refused}")
+    except OSError as failure:
+        fail(f"{label(name)}: {failure.strerror}")
 
 
-@lru_cache(maxsize=4096)
-def read_arguments(name, arguments):
-    """The numbers in parentheses; of an error its probability, as read_probability has it."""
-    texts = [text.strip(BLANKS) for text in arguments.split(",")] if arguments and arguments.strip(BLANKS) else []
-    least, most, _ = LINES[name]
-    if not least <= len(texts) <= most:
-        raise Refused(f"{name} takes {least} arguments, not {len(texts)}")
-    return tuple(map(read_probability if name == "error" else read_number, texts))
+def label(name):
+    return "standard input" if name == "-" else name
 
 
-def read_count(text):
-    digits = COUNT.fullmatch(text)
-    if not digits:
-        raise Refused(f"{shown(text)} is no number of at most 18 digits")
-    return int(digits[1])
-
-
-@lru_cache(maxsize=65536)
-def read_target(text):
-    parts = TARGET.fullmatch(text)
-    if not parts:
-        raise Refused(f"{shown(text)} is no target of at most 18 digits")
-    return int(parts[2]) if parts[1] == "D" else -1 - int(parts[2])
-
-
-def read_targets(name, rest):
-    """The targets of a line, sorted."""
-    texts, letters = rest.split(), LINES[name][2]
-    if name == "shift_detectors":
-        if len(texts) != 1:
-            raise Refused(f"shift_detectors takes 1 number, not {len(texts)}")
-        return [read_count(texts[0])]
-    if "^" in letters and "^" in rest:
-        texts = [text for text in texts if text != "^"]
-    targets = sorted(map(read_target, texts))
-    if targets and (targets[0] < 0 and "L" not in letters or targets[-1] >= 0 and "D" not in letters):
-        raise Refused(f"{name} takes no {'observables' if letters == 'D' else 'detectors'}")
-    return targets
-
+# Names and numbers
 
 def name_targets(symptom):
     """A symptom as a line of a model has it: detectors, and then observables."""
-    names = [f"D{target}" for target in symptom if target >= 0]
-    return " ".join(names + [f"L{-1 - target}" for target in reversed(symptom) if target < 0])
+    detectors, observables = split(symptom)
+    return " ".join([*(f"D{detector}" for detector in detectors), *(f"L{observable}" for observable in observables)])
 
 
 def write_decimal(value):
@@ -142,150 +99,6 @@ def shorten(value):
 
 def round_probability(value):
     return value.quantize(Decimal(1).scaleb(-min(38, 17 - value.adjusted())), ROUND_HALF_EVEN)
-
-
-# Reading
-
-class Model(NamedTuple):
-    """What a text says: the probability of each symptom that has one, and the coordinates of each detector that has some."""
-    detectors: int
-    observables: int
-    error_lines: int
-    symptoms: dict
-    coordinates: dict
-
-
-class Block:
-    """A block: its line, what it does in each turn, and how much that is, unrolled."""
-
-    def __init__(self, turns, at):
-        self.turns, self.at, self.steps, self.size = turns, at, [], 0
-
-
-class Reader:
-    """Reads the lines of a model, and merges its errors on the way."""
-
-    def __init__(self, keep_coordinates):
-        self.keep_coordinates, self.coordinates = keep_coordinates, {}
-        self.at = self.unrolled = self.detectors = self.observables = self.error_lines = 0
-        self.shift, self.offset = 0, []
-        self.blocks = []
-        # Of each symptom a number of at most 1/2, and those symptoms whose probability is 1 less that number.
-        self.chances, self.turned = {}, set()
-
-    def read(self, lines):
-        """The model of these lines, which are bytes. Where one can't be read, `at` is its number."""
-        for self.at, line in enumerate(lines, 1):
-            self.take_line(line.translate(READ_AS).decode("ascii"))
-        if self.blocks:
-            self.at = self.blocks[-1].at
-            raise Refused("the block isn't closed")
-        for symptom in self.turned:
-            self.chances[symptom] = 1 - self.chances[symptom]
-        symptoms = {symptom: chance for symptom, chance in self.chances.items() if chance}
-        return Model(self.detectors, self.observables, self.error_lines, symptoms, self.coordinates)
-
-    def take_line(self, text):
-        head = HEAD.match(text)
-        name, arguments = head[1].lower(), head[2]
-        rest = text[head.end():].partition("#")[0]
-        if name == "repeat" or "{" in rest or "}" in rest:
-            self.take_brace(head[0].strip(BLANKS), name, arguments, rest.strip(BLANKS))
-        elif name in LINES:
-            numbers, targets = read_arguments(name, arguments), read_targets(name, rest)
-            if self.blocks:
-                self.keep(1 + len(numbers) + len(targets), self.apply, name, numbers, targets)
-            else:
-                self.apply(name, numbers, targets)
-        elif name or head[0].strip(BLANKS) or rest.strip(BLANKS):
-            raise Refused(f"{shown(head[1])} isn't the name of a line{HINTS.get(name, '')}")
-
-    def take_brace(self, head, name, arguments, rest):
-        if not head and rest == "}":
-            return self.close_block()
-        if name != "repeat" or rest[-1:] != "{" or (arguments or "").strip(BLANKS):
-            raise Refused("a block begins with 'repeat', a number and '{', and ends with a '}' on a line of its own")
-        turns = read_count(rest[:-1].strip(BLANKS))
-        if turns == 0:
-            raise Refused("a block is repeated at least once")
-        if len(self.blocks) == MOST_BLOCKS:
-            raise Refused(f"more than {MOST_BLOCKS} blocks inside one another")
-        self.blocks.append(Block(turns, self.at))
-
-    def close_block(self):
-        if not self.blocks:
-            raise Refused("no block is open")
-        block = self.blocks.pop()
-        block.size = block.turns * (1 + block.size)
-        self.check_size(block)
-        if self.blocks:
-            self.keep(block.size, self.unroll, block)
-        else:
-            self.unrolled += block.size
-            self.unroll(block)
-
-    def keep(self, size, action, *words):
-        """What a line, or a block that is closed, does is done where the innermost open block is unrolled."""
-        block = self.blocks[-1]
-        block.steps.append((action, words))
-        block.size += size
-        self.check_size(block)
-
-    def check_size(self, block):
-        if self.unrolled + block.size > MOST_UNROLLED:
-            self.at = block.at
-            raise Refused(f"with this block more than {MOST_UNROLLED:,} lines, arguments and targets are unrolled")
-
-    def unroll(self, block):
-        for _ in range(block.turns):
-            for action, words in block.steps:
-                action(*words)
-
-    def apply(self, name, arguments, targets):
-        if name == "shift_detectors":
-            self.shift += targets[0]
-            self.offset += [Decimal(0)] * (len(arguments) - len(self.offset))
-            for place, value in enumerate(arguments):
-                self.offset[place] += value
-            return
-        if self.shift:
-            targets = [target + self.shift if target >= 0 else target for target in targets]
-        if targets and targets[-1] >= self.detectors:
-            self.detectors = targets[-1] + 1
-        if targets and -targets[0] > self.observables:
-            self.observables = -targets[0]
-        if name == "error":
-            self.add_error(*arguments[0], targets)
-        elif name == "detector" and arguments and self.keep_coordinates:
-            offset = self.offset[:len(arguments)] + [0] * (len(arguments) - len(self.offset))
-            self.coordinates.update(dict.fromkeys(targets, tuple(value + move for value, move in zip(arguments, offset))))
-
-    def add_error(self, chance, stays, turned, targets):
-        """Merges an error: p + q - 2pq is p (1 - 2q) + q, and `stays` is 1 - 2q."""
-        self.error_lines += 1
-        if len(set(targets)) < len(targets):
-            odd = set()
-            for target in targets:
-                odd ^= {target}
-            targets = sorted(odd)
-        if targets and (chance or turned):
-            symptom = tuple(targets)
-            before = self.chances.get(symptom)
-            self.chances[symptom] = chance if before is None else before * stays + chance
-            if turned:
-                self.turned ^= {symptom}
-
-
-def read_file(name, keep_coordinates):
-    """The model of a file. What can't be read ends the program."""
-    reader = Reader(keep_coordinates)
-    try:
-        with open(0 if name == "-" else name, "rb", closefd=name != "-") as lines:
-            return reader.read(lines)
-    except Refused as refused:
-        fail(f"{label(name)}: line {reader.at}: {refused}")
-    except OSError as failure:
-        fail(f"{label(name)}: {failure.strerror}")
 
 
 # Comparing
@@ -340,15 +153,9 @@ def write_place(place):
 
 # Writing
 
-def label(name):
-    return "standard input" if name == "-" else name
-
-
 def write_merged(model):
     """The lines of a model that has each symptom once."""
-    def order(symptom):
-        return [target for target in symptom if target >= 0], [-target for target in reversed(symptom) if target < 0]
-    for symptom in sorted(model.symptoms, key=order):
+    for symptom in sorted(model.symptoms, key=split):
         yield f"error({write_decimal(round_probability(model.symptoms[symptom]))}) {name_targets(symptom)}"
     for detector in sorted(model.coordinates):
         yield f"detector{write_place(model.coordinates[detector])} D{detector}"
@@ -398,7 +205,7 @@ def read_options():
         parser.error("two models are compared, of which one may be standard input")
     try:
         options.tolerance = read_number("1e-9" if options.tolerance is None else options.tolerance)
-    except Refused as refused:
+    except ModelError as refused:
         parser.error(f"--tolerance: {refused}")
     if options.tolerance < 0:
         parser.error("--tolerance takes a number from 0 on")

@@ -6,6 +6,8 @@ flips these two, and isn't such a product; and the kinds that are kept are those
 """
 from collections import defaultdict
 
+from error_model import Merger, fold
+
 
 class CannotMatch(Exception):
     """Why a model can't be decoded by matching."""
@@ -13,11 +15,12 @@ class CannotMatch(Exception):
 
 def merge(errors):
     """The probability of each pair of (detectors, observables) to be flipped by an odd number of the errors that flip these."""
-    merged = {}
+    merger = Merger()
     for probability, detectors, observables in errors:
-        before = merged.get((detectors, observables), 0.0)
-        merged[detectors, observables] = before + probability - 2 * before * probability
-    return {symptom: probability for symptom, probability in merged.items() if probability > 0 and any(symptom)}
+        merger.add(fold(probability), (detectors, observables))
+    symptoms = merger.merged()
+    symptoms.pop(((), ()), None)  # errors that flip nothing
+    return symptoms
 
 
 def keep(errors, kept):

@@ -73,7 +73,7 @@ def round_digits(chance):
 def merge(text):
     """The lines of the merged model of a text, with coordinates."""
     with localcontext(script.CONTEXT):
-        return list(script.write_merged(script.Reader(True).read(io.BytesIO(text.encode()))))
+        return list(script.write_merged(script.read_merged(io.BytesIO(text.encode()), True)))
 
 
 class Script(unittest.TestCase):
@@ -137,7 +137,7 @@ class Differences(unittest.TestCase):
     def assert_differ(self, ours, theirs, told, tolerance="1e-9", coordinates=False):
         options = SimpleNamespace(models=["ours", "theirs"], tolerance=Decimal(tolerance), coordinates=coordinates)
         with localcontext(script.CONTEXT):
-            models = [script.Reader(coordinates).read(io.BytesIO(text.encode())) for text in (ours, theirs)]
+            models = [script.read_merged(io.BytesIO(text.encode()), coordinates) for text in (ours, theirs)]
             self.assertEqual(script.find_differences(*models, options)[0], told)
 
     def assert_agree(self, ours, theirs, **options):

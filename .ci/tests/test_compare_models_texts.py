@@ -1,6 +1,7 @@
-"""How tools/compare_models.py reads models: each form of a line, blocks, what it merges, and what it refuses."""
+"""How tools/compare_models.py reads models, by tools/error_model.py: each form of a line, blocks, what is merged, and refused."""
 import io
 import random
+import re
 import time
 import unittest
 from decimal import localcontext
@@ -147,18 +148,17 @@ LINES = ["error(0.1) D0 ^ D1 L0", "error[t](1e-3) D2", "detector(1, -2) D0 D3", 
 def read(text, keep_coordinates=False):
     """The model of a text, and the exact probability of each symptom by its targets' names."""
     with localcontext(script.CONTEXT):
-        model = script.Reader(keep_coordinates).read(io.BytesIO(text.encode("latin-1")))
+        model = script.read_merged(io.BytesIO(text.encode("latin-1")), keep_coordinates)
     return model, {script.name_targets(symptom): Fraction(chance) for symptom, chance in model.symptoms.items()}
 
 
 def refusal(text, keep_coordinates=False):
     """The line that isn't read, and why; or None."""
-    reader = script.Reader(keep_coordinates)
     try:
-        with localcontext(script.CONTEXT):
-            reader.read(io.BytesIO(text.encode("latin-1")))
-    except script.Refused as refused:
-        return reader.at, str(refused)
+        read(text, keep_coordinates)
+    except script.ModelError as refused:
+        at, reason = re.fullmatch(r"line (\d+): (.*)", str(refused)).groups()
+        return int(at), reason
     return None
 
 
@@ -191,7 +191,7 @@ class Forms(unittest.TestCase):
     def test_the_least_exponents_are_kept(self):
         text = "error(1e-99999999) D0\nerror(9e-0000000099999999) D1\nerror(9e-99999999) D1"
         with localcontext(script.CONTEXT):
-            first, second = script.Reader(False).read(io.BytesIO(text.encode())).symptoms.values()
+            first, second = script.read_merged(io.BytesIO(text.encode()), False).symptoms.values()
             self.assertEqual(str(first), "1E-99999999")
             self.assertAlmostEqual(second / first, 18)
 

@@ -123,7 +123,7 @@ class Decoding(unittest.TestCase):
             ({"analyze": (model, 1)}, "analyze ended with status 1"),
             ({"analyze": (model, 0), "detect": ("refused 52 line 0\\n", 2)}, "detect ended with status 2: refused 52 line 0"),
             ({"analyze": (large, 0)}, "too many for a table; use tools/match.py"),
-            ({"analyze": ("detector D0\\nerror(2) D0\\n", 0)}, "line 2: an error has one probability, from 0 to 1"),
+            ({"analyze": ("detector D0\\nerror(2) D0\\n", 0)}, "line 2: '2' is no probability"),
             ({"analyze": (model, 0), "detect": ("00\\n1\\n", 0)}, "decode.py: "),
         ]
         for answers, said in rows:

@@ -288,7 +288,7 @@ class Failing(MatchTest):
         answers = {
             "analyze ended with status 2: refused 12 line 7": {"analyze": ("refused 12 line 7\n", 2)},
             "analyze ended with status 3: random D3": {"analyze": ("random D3\n0\n1\n", 3)},
-            "line 1: 'D' is no target of error": {"analyze": ("error(0.1) D0 D\n", 0)},
+            "line 1: 'D' is no target": {"analyze": ("error(0.1) D0 D\n", 0)},
             "the circuit has no observable": {"analyze": ("detector D0\n", 0)},
             "D0 D1 D2, and none of these detectors is kept": {"analyze": ("error(0.1) D0 D1 D2 L0\n", 0)},
             "detect ended with status 2: refused 52 line 0": {**right, "detect": ("refused 52 line 0\n", 2)},
