@@ -259,11 +259,10 @@ class Merger:
     def add(self, folded, symptom):
         """An error with a probability that is folded. p + q - 2pq is p (1 - 2q) + q, and `stays` is 1 - 2q."""
         chance, stays, turned = folded
-        if chance or turned:
-            before = self.chances.get(symptom)
-            self.chances[symptom] = chance if before is None else before * stays + chance
-            if turned:
-                self.turned ^= {symptom}
+        before = self.chances.get(symptom)
+        self.chances[symptom] = chance if before is None else before * stays + chance
+        if turned:
+            self.turned ^= {symptom}
 
     def merged(self):
         """The probability of each symptom that has one."""

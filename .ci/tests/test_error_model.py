@@ -1,5 +1,7 @@
 """tools/error_model.py, the reader of models that the scripts share: what it makes of texts that are read by hand here."""
 import unittest
+from decimal import DefaultContext, localcontext
+from math import inf
 
 from example_models import repetition_code
 from programs import TOP, load
@@ -19,6 +21,7 @@ READ = [
      " shift_detectors(10) 0\n}\ndetector(1, 1, 1) D0\n", [], 7, 0, {2: (6,), 3: (6,), 4: (16,), 5: (16,), 6: (26, 6, 1)}),
     ("shift_detectors 999998\nerror(0) D1", [(0.0, (999999,), ())], 1000000, 0, {}),
     ("error[\xe9\u2603](0.5) D0 # \xfc \udcff\nlogical_observable L1023", [(0.5, (0,), ())], 1, 1024, {}),
+    ("detector(1e9999999, 2) D1", [], 2, 0, {1: (inf, 2)}),
     ("error(0.10000000000000000555) L1\nerror(1e-9999) D0", [(0.1, (), (1,)), (0.0, (0,), ())], 1, 2, {}),
 ]
 
@@ -50,8 +53,9 @@ REFUSED = [
 
 class Reading(unittest.TestCase):
     def test_what_is_read(self):
+        """In the context for decimals that a script begins with; those of other tests set another one."""
         for text, errors, detectors, observables, coordinates in READ:
-            with self.subTest(text=text):
+            with self.subTest(text=text), localcontext(DefaultContext):
                 model = error_model.read_model(text)
                 self.assertEqual(model.errors, errors)
                 self.assertEqual((model.detectors, model.observables), (detectors, observables))

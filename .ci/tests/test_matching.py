@@ -272,7 +272,7 @@ class Choice(unittest.TestCase):
         self.assertRaises(choice.CannotMatch, choice.choose_by_place, model, [[0, 0, 0, 0]])
 
     def test_a_choice_that_loses_an_observable_or_flips_three_is_told(self):
-        model = reader.read_model("error(0.1) D0 D1 D2\nerror(0.1) D3 L0\nerror(0.2) D3 L0\n")
+        model = reader.read_model("error(0.1) D0 D1 D2\nerror(0.1) D1\nerror(0.1) D3 L0\nerror(0.2) D3 L0\n")
         self.assertEqual(choice.check_choice(model, {0, 2, 3}).keys(), {((0, 2), ()), ((3,), (0,))})
         self.assertAlmostEqual(choice.check_choice(model, {0, 2, 3})[(3,), (0,)], 0.1 * 0.8 + 0.9 * 0.2)
         for kept, said in (({0, 1, 2, 3}, "flips D0 D1 D2 of"), ({0, 1}, "flips an observable and D3, and none")):
