@@ -22,9 +22,7 @@ from array import array
 from collections import Counter
 from itertools import compress
 
-LINE = re.compile(
-    r"[ \t\r]*(?P<name>[^ \t\r\[({}#]*)([ \t\r]*\[[^\]]*\])?([ \t\r]*\((?P<arguments>[^)#]*)\))?"
-    r"(?P<targets>[^#{}]*)(?P<brace>[{}]?)[ \t\r]*(#.*)?", re.DOTALL)
+from stim_text import LINE
 
 MEASURED = set("M MZ MX MY MR MRZ MRX MRY MPP".split())
 RESET = set("R RZ RX RY".split())

@@ -4,9 +4,11 @@
 """
 import re
 
+# Indent, name and targets are as long as they can be: trying shorter ones would take a time that grows with the square of a line.
 LINE = re.compile(
-    r"(?P<indent>[ \t\r]*)(?P<name>[^ \t\r\[({}#]*)(?P<tag>[ \t\r]*\[[^\]]*\])?([ \t\r]*\((?P<arguments>[^)#]*)\))?"
-    r"(?P<targets>[^#{}]*)(?P<brace>[{}]?)[ \t\r]*(#.*)?", re.DOTALL)
+    r"(?P<indent>[ \t\r]*)(?![ \t\r])(?P<name>[^ \t\r\[({}#]*)(?![^ \t\r\[({}#])"
+    r"(?P<tag>[ \t\r]*\[[^\]]*\])?([ \t\r]*\((?P<arguments>[^)#]*)\))?"
+    r"(?P<targets>[^#{}]*)(?![^#{}])(?P<brace>[{}]?)[ \t\r]*(#.*)?", re.DOTALL)
 NAME = re.compile(r"[ \t\r]*([^ \t\r\[({}#]*)")
 WORD = re.compile(r"[^ \t\r]+")
 STAR = re.compile(r"[ \t\r]*\*[ \t\r]*")

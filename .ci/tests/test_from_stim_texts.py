@@ -178,6 +178,13 @@ class Kept(unittest.TestCase):
 
 
 class Refused(unittest.TestCase):
+    def test_long_lines_are_refused_soon(self):
+        blanks, letters = " " * 10_000, "H" * 10_000
+        for text in (f"H{blanks}{{ x", f"{blanks}H 0 }} x", f"{letters} 0 }} x", f"M 0{blanks}}} x", f"H[a]{blanks}(0.1) }} x"):
+            began = time.process_time()
+            self.assertIn("no line", refusals(text)[0][1])
+            self.assertLess(time.process_time() - began, 1, text.strip()[:20])
+
     def test_each_is_named_with_its_line_and_reason(self):
         for rows, is_model in ((REFUSED, False), (MODELS_REFUSED, True)):
             for text, line, reason in rows:
