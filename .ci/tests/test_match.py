@@ -14,7 +14,7 @@ from math import sqrt
 from pathlib import Path
 from unittest import mock
 
-from programs import FROM_STIM, MATCH, TOP, find_program, find_python, load, run
+from programs import FROM_STIM, MATCH, TOP, find_program, find_python, heed_interrupts, load, run
 from test_decode import CIRCUIT, StandIn, least_error_rate, repetition_model
 
 ROTATED_CODE = TOP / "tools" / "rotated_code.py"
@@ -370,7 +370,7 @@ class Failing(MatchTest):
             program.write_text(program.read_text().replace("cat ", "[ $1 = analyze ] || { touch draws; sleep 60; }\ncat ", 1))
             words = [find_python("numpy", "networkx"), str(MATCH), "--stabsim", str(program), str(circuits["code"])]
             with open(Path(folder) / "told", "wb") as told:
-                process = subprocess.Popen(words, stdout=told, stderr=told, start_new_session=True)
+                process = subprocess.Popen(words, stdout=told, stderr=told, start_new_session=True, preexec_fn=heed_interrupts)
             try:
                 while not (Path(folder) / "draws").exists():
                     self.assertIsNone(process.poll())
