@@ -18,6 +18,7 @@ sys.path.insert(0, str(TOP / "tools"))
 try:
     import error_model
     import numpy as np
+    import streams
 except ImportError:
     sys.exit("decode.py needs numpy: on Debian install python3-numpy, and run /usr/bin/python3 examples/decode.py")
 
@@ -25,9 +26,8 @@ MOST_BITS = 20
 
 
 def run(program, words, circuit):
-    """What the program writes of a circuit. A refusal or a random detector stands on its standard output."""
-    with circuit.open("rb") as source:
-        done = subprocess.run([program, *words], stdin=source, capture_output=True)
+    """What the program writes of a circuit's text. A refusal or a random detector stands on its standard output."""
+    done = subprocess.run([program, *words], input=circuit, capture_output=True)
     if done.returncode != 0:
         said = (done.stdout[:200] + done.stderr).decode("latin-1").strip()
         sys.exit(f"decode.py: {words[0]} ended with status {done.returncode}: {said}")
@@ -48,8 +48,10 @@ def read_model(text):
     return as_arrays(error_model.read_model(text))
 
 
-def read_shots(data, shots):
-    """A row a shot, which has a column a detector and then one an observable."""
+def read_shots(data, shots, width=None):
+    """A row a shot, which has a column a detector and then one an observable: so many, if that is known."""
+    if width is not None and len(data) != shots * (width + 1):
+        raise ValueError(f"detect didn't write {shots} shots of {width} characters")
     return np.frombuffer(data, np.uint8).reshape(shots, -1)[:, :-1] - 48
 
 
@@ -70,14 +72,15 @@ def find_distribution(checks, flips, chances):
 
 
 def decode(options):
-    model = error_model.read_model(run(options.program, ["analyze"], options.circuit).decode("latin-1"))
+    circuit = options.circuit.read_bytes()  # once, since it may be a pipe
+    model = error_model.read_model(run(options.program, ["analyze"], circuit).decode("latin-1"))
     print(f"detectors {model.detectors}, observables {model.observables}, error lines {len(model.errors)}")
     if model.detectors + model.observables > MOST_BITS:
         sys.exit(f"decode.py: more than {MOST_BITS} detectors and observables are too many for a table; use tools/match.py")
     distribution = find_distribution(*as_arrays(model))
 
     words = ["detect", "--shots", str(options.shots), "--seed", str(options.seed)]
-    shots = read_shots(run(options.program, words, options.circuit), options.shots)
+    shots = read_shots(run(options.program, words, circuit), options.shots, model.detectors + model.observables)
     events, actual = as_numbers(shots[:, :model.detectors]), as_numbers(shots[:, model.detectors:])
     wrong = int(np.count_nonzero(distribution.argmax(axis=0)[events] != actual))
     print(f"shots {options.shots}, decoded wrongly {wrong}: logical error rate {wrong / options.shots:.6f}")
@@ -91,14 +94,14 @@ def main():
     parser.add_argument("--seed", type=int, default=0, help="of the random numbers (default: 0)")
     parser.add_argument("--program", default=TOP / "stabsim", help="in place of ./stabsim")
     try:
+        streams.need_output()
         try:
             options = parser.parse_args()
             if options.shots < 1 or options.seed < 0:
                 parser.error("--shots takes a whole number from 1 on, --seed one from 0 on")
             decode(options)
         finally:
-            if sys.stdout:
-                sys.stdout.flush()  # here, where it may fail
+            sys.stdout.flush()  # here, where it may fail
     except (OSError, ValueError, error_model.ModelError) as reason:
         sys.stdout = None  # it may be what failed, and is not written again
         sys.exit(f"decode.py: {reason}")

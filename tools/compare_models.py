@@ -39,7 +39,11 @@ from decimal import ROUND_HALF_EVEN, Decimal, setcontext
 from heapq import nlargest
 from typing import NamedTuple
 
-from error_model import CONTEXT, Merger, ModelError, Reader, fold, read_number, split
+try:
+    import streams
+    from error_model import CONTEXT, Merger, ModelError, Reader, fold, read_number, split
+except ImportError as missing:
+    sys.exit(f"compare_models.py needs the files error_model.py and streams.py beside it: {missing}")
 
 WORST = 5
 
@@ -184,7 +188,7 @@ def compare(options):
 
 
 def fail(reason):
-    print(f"compare_models.py: {reason}", file=sys.stderr)
+    streams.tell(f"compare_models.py: {reason}")
     sys.exit(2)
 
 

@@ -22,7 +22,10 @@ from array import array
 from collections import Counter
 from itertools import compress
 
-from stim_text import LINE
+try:
+    from stim_text import LINE
+except ImportError as missing:
+    sys.exit(f"explain_random.py needs the file stim_text.py beside it: {missing}")
 
 MEASURED = set("M MZ MX MY MR MRZ MRX MRY MPP".split())
 RESET = set("R RZ RX RY".split())

@@ -27,15 +27,15 @@ if __name__ == "__main__":
             signal.signal(getattr(signal, name), signal.SIG_DFL)
 
 import argparse
-import os
 import sys
 
 try:
     from stim_converter import Choices, Converter
     from stim_text import SECTIONS
+    from streams import discard, tell
 except ImportError as missing:
-    print("NOT_CONVERTED # by from_stim.py: it needs the files stim_*.py beside it")
-    sys.exit(f"from_stim.py needs Python 3.8 or later, and the files stim_*.py beside it: {missing}")
+    print("NOT_CONVERTED # by from_stim.py: it needs the files stim_*.py and streams.py beside it")
+    sys.exit(f"from_stim.py needs Python 3.8 or later, and the files stim_*.py and streams.py beside it: {missing}")
 
 SHOWN = 3
 
@@ -85,15 +85,8 @@ def write(data):
         return True
     except OSError as reason:
         tell(f"the output can't be written: {reason}")
-        os.dup2(os.open(os.devnull, os.O_WRONLY), sys.stdout.fileno())  # what is held is written again at the end
+        discard(sys.stdout)
         return False
-
-
-def tell(message):
-    try:
-        print(message, file=sys.stderr)
-    except OSError:
-        pass
 
 
 def read_lines():

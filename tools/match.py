@@ -16,7 +16,6 @@ Exit statuses: 0 done; 1 a circuit was refused or can't be matched, a library or
 written, as standard error says; 2 the options are wrong; 130 interrupted. Circuits behind one that is refused are still decoded.
 """
 import argparse
-import os
 import re
 import subprocess
 import sys
@@ -24,9 +23,13 @@ import tempfile
 from math import sqrt
 from pathlib import Path
 
-import rotated_code
-from detector_choice import CannotMatch, check_choice, choose_by_place, choose_detectors
-from error_model import ModelError, read_model
+try:
+    import rotated_code
+    import streams
+    from detector_choice import CannotMatch, check_choice, choose_by_place, choose_detectors
+    from error_model import ModelError, read_model
+except ImportError as missing:
+    sys.exit(f"match.py needs the other scripts of its folder: {missing}")
 
 try:
     import numpy as np
@@ -264,7 +267,7 @@ def make_cases(options):
 
 
 def tell(reason):
-    print(f"match.py: {reason}", file=sys.stderr)
+    streams.tell(f"match.py: {reason}")
     return False
 
 
@@ -295,15 +298,18 @@ def run():
 
 def main():
     try:
+        streams.need_output()
         try:
             return run()
         finally:
-            if sys.stdout:
-                sys.stdout.flush()  # here, where it may fail
-    except (OSError, MemoryError) as reason:
-        tell(f"{reason.filename or 'standard output'}: {reason.strerror}" if isinstance(reason, OSError) else "memory ran out")
-        if isinstance(reason, OSError) and not reason.filename and sys.stdout:
-            os.dup2(os.open(os.devnull, os.O_WRONLY), sys.stdout.fileno())  # which failed, and is flushed again at the end
+            sys.stdout.flush()  # here, where it may fail
+    except MemoryError:
+        tell("memory ran out")
+        return 1
+    except OSError as reason:
+        tell(f"{reason.filename or 'standard output'}: {reason.strerror}" if reason.strerror else reason)
+        if not reason.filename and sys.stdout:
+            streams.discard(sys.stdout)
         return 1
     except KeyboardInterrupt:
         return 130

@@ -11,9 +11,10 @@ This program is tested and NOT proved. Exit statuses: 0 done, 1 the circuit can'
 interrupted.
 """
 import argparse
-import os
 import re
 import sys
+
+import streams
 
 # The places of the four data qubits round a check, in the order in which it meets them. The orders of the two kinds differ: so
 # an error on a check's qubit, in the midst of a round, spreads across the logical operator that it could shorten, not along it.
@@ -170,15 +171,16 @@ def main():
     parser.add_argument("--probability", type=probability, required=True, help="of each kind of noise")
     parser.add_argument("--rounds", type=rounds, help="default: as many as the distance")
     try:
+        streams.need_output()
         try:
             options = parser.parse_args()
             print(write_circuit(options.distance, options.rounds or options.distance, options.probability), end="")
         finally:
-            if sys.stdout:
-                sys.stdout.flush()  # here, where it may fail
+            sys.stdout.flush()  # here, where it may fail
     except OSError as reason:
-        print(f"rotated_code.py: standard output: {reason.strerror}", file=sys.stderr)
-        os.dup2(os.open(os.devnull, os.O_WRONLY), sys.stdout.fileno())  # it is flushed again at the end
+        streams.tell(f"rotated_code.py: {'standard output: ' + reason.strerror if reason.strerror else reason}")
+        if sys.stdout:
+            streams.discard(sys.stdout)
         return 1
     except KeyboardInterrupt:
         return 130

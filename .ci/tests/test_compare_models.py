@@ -244,6 +244,11 @@ class Statuses(Script):
             done = self.call(*words, data=b"\n\nerror(0.1) D0 X1\n", ours=MODEL, broken=MODEL[:19] + "foo\n")
             self.assertEqual((done.returncode, done.stdout, done.stderr), (2, b"", b"compare_models.py: " + said + b"\n"))
 
+    def test_2_where_nobody_can_be_told(self):
+        for closed in ("2>/dev/full", "2>&-"):
+            done = run(["bash", "-c", f"{sys.executable} {COMPARE} {self.folder}/none {self.folder}/none {closed}"])
+            self.assertEqual((done.returncode, done.stdout, done.stderr), (2, b"", b""), closed)
+
     def test_2_where_the_command_line_is_wrong(self):
         for words in (["ours"], ["ours", "ours", "ours"], ["-", "-"], ["--merge", "ours", "ours"],
                       ["--merge", "ours", "--tolerance", "1"], ["ours", "ours", "--tolerance", "x"],

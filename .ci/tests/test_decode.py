@@ -100,6 +100,12 @@ class Decoding(unittest.TestCase):
             path.write_bytes(converted)
             self.assert_rates([python, DECODE, "--program", program, path], expected, 100000)
 
+    def test_a_circuit_may_be_a_pipe(self):
+        command = f"{find_numpy_python()} {DECODE} --program {find_program()} --shots 1000"
+        piped, plain = (run(["bash", "-c", f"{command} {circuit}"]) for circuit in (f"<(cat {CIRCUIT})", CIRCUIT))
+        self.assertRegex(plain.stdout, rb"decoded wrongly [1-9]")
+        self.assertEqual((piped.returncode, piped.stdout), (0, plain.stdout))
+
     def test_shots_are_counted_by_hand(self):
         """Two detectors; the observable goes with the first one, as the greater chance has it. Shots 3 and 4 are wrong."""
         python = find_numpy_python()
@@ -124,7 +130,8 @@ class Decoding(unittest.TestCase):
             ({"analyze": (model, 0), "detect": ("refused 52 line 0\\n", 2)}, "detect ended with status 2: refused 52 line 0"),
             ({"analyze": (large, 0)}, "too many for a table; use tools/match.py"),
             ({"analyze": ("detector D0\\nerror(2) D0\\n", 0)}, "line 2: '2' is no probability"),
-            ({"analyze": (model, 0), "detect": ("00\\n1\\n", 0)}, "decode.py: "),
+            ({"analyze": (model, 0), "detect": ("00\\n1\\n", 0)}, "decode.py: detect didn't write 100000 shots of 2 characters"),
+            ({"analyze": (model, 0), "detect": ("", 0)}, "decode.py: detect didn't write 100000 shots of 2 characters"),
         ]
         for answers, said in rows:
             with tempfile.TemporaryDirectory() as folder:

@@ -99,7 +99,7 @@ class Refusals(unittest.TestCase):
             shutil.copy(FROM_STIM, folder)
             done = run([sys.executable, Path(folder) / FROM_STIM.name], b"H 0")
         self.assertEqual(done.returncode, 1)
-        self.assertRegex(done.stderr.decode(), r"\Afrom_stim.py needs .*the files stim_\*\.py beside it[^\n]*\n\Z")
+        self.assertRegex(done.stderr.decode(), r"\Afrom_stim.py needs .*the files stim_\*\.py and streams\.py beside it[^\n]*\n\Z")
         self.assert_refused_as_text(done, "analyze")
 
 
@@ -131,6 +131,12 @@ class Streams(unittest.TestCase):
                 self.assert_told(self.start(stdin=source, stdout=full), b"the output can't be written: ")
         done = run(["bash", "-c", f"{sys.executable} {FROM_STIM} >&-"], b"H 0")
         self.assertEqual((done.returncode, done.stderr.count(b"\n")), (1, 1))
+
+    def test_nobody_can_be_told(self):
+        """What it tells doesn't come among the lines of the circuit."""
+        for closed in ("2>&-", "2>/dev/full"):
+            done = run(["bash", "-c", f"{sys.executable} {FROM_STIM} {closed}"], b"M 0\nDETECTOR(0.5) rec[-1]\n")
+            self.assertEqual((done.returncode, done.stdout, done.stderr), (0, b"M 0\nDETECTOR(1) rec[-1]\n", b""), closed)
 
     def test_a_pipe_that_is_closed_and_an_interrupt_end_it_by_their_signals(self):
         reader, writer = os.pipe()

@@ -98,6 +98,7 @@ class Words(Case):
         (["detect", "--shots", "10", "code.stim", "--seed=3"], "./stabsim detect --shots 10 --seed=3 < code.stim"),
         (["run", "--coins", "0101", "code.stim"], "./stabsim run --coins 0101 < code.stim"),
         (["run", "0101"], "./stabsim run < 0101"),
+        (["run", "0101", "--coins", "0101"], "./stabsim run --coins 0101 < 0101"),
         (["run", "--coins=1", "0101"], "./stabsim run --coins=1 < 0101"),
         (["run", "run"], None),
         (["code.stim"], "./stabsim COMMAND < code.stim"),

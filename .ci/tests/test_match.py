@@ -14,7 +14,7 @@ from math import sqrt
 from pathlib import Path
 from unittest import mock
 
-from programs import FROM_STIM, MATCH, TOP, find_program, find_python, heed_interrupts, load, run
+from programs import DECODE, FROM_STIM, MATCH, TOP, find_program, find_python, heed_interrupts, load, run
 from test_decode import CIRCUIT, StandIn, least_error_rate, repetition_model
 
 ROTATED_CODE = TOP / "tools" / "rotated_code.py"
@@ -355,11 +355,18 @@ class Failing(MatchTest):
             for command, said in (
                 (f"{whole} | true; exit ${{PIPESTATUS[0]}}", "Broken pipe"), (f"{whole} > /dev/full", "No space left"),
                 (f"{ROTATED_CODE} --distance 2 --probability 0 > /dev/full", "No space left"),
+                (f"{whole} >&-", "standard output is closed"),
+                (f"{ROTATED_CODE} --distance 2 --probability 0 >&-", "standard output is closed"),
+                (f"{python} {DECODE} --program {program} {circuits['code']} >&-", "standard output is closed"),
             ):
                 with self.subTest(command=command):
                     done = run([*BUFFERED, "bash", "-c", command])
                     self.assert_told(done, 1, said)
                     self.assertEqual(done.stderr.count(b"\n"), 1)
+            for closed in ("2>&-", "2>/dev/full"):  # nobody can be told of the circuit that isn't there, and the other is decoded
+                done = run([*BUFFERED, "bash", "-c", whole.replace("--shots 2", "--shots 2 /nowhere") + " " + closed])
+                self.assertEqual((done.returncode, done.stdout.count(b".stim ")), (1, 1), done.stdout)
+                self.assertNotIn(b"nowhere:", done.stdout)
             for path in (MATCH, ROTATED_CODE):  # some versions of argparse pass over a failure of help
                 done = run([*BUFFERED, "bash", "-c", f"{python} {path} --help > /dev/full"])
                 self.assertNotRegex(done.stderr, b"Traceback|Exception")
