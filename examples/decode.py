@@ -18,7 +18,7 @@ sys.path.insert(0, str(TOP / "tools"))
 try:
     import error_model
     import numpy as np
-    import streams
+    import script_streams as streams
 except ImportError:
     sys.exit("decode.py needs numpy: on Debian install python3-numpy, and run /usr/bin/python3 examples/decode.py")
 

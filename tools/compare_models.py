@@ -40,10 +40,10 @@ from heapq import nlargest
 from typing import NamedTuple
 
 try:
-    import streams
+    import script_streams as streams
     from error_model import CONTEXT, Merger, ModelError, Reader, fold, read_number, split
 except ImportError as missing:
-    sys.exit(f"compare_models.py needs the files error_model.py and streams.py beside it: {missing}")
+    sys.exit(f"compare_models.py needs the files error_model.py and script_streams.py beside it: {missing}")
 
 WORST = 5
 

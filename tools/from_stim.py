@@ -32,10 +32,10 @@ import sys
 try:
     from stim_converter import Choices, Converter
     from stim_text import SECTIONS
-    from streams import discard, tell
+    from script_streams import discard, tell
 except ImportError as missing:
-    print("NOT_CONVERTED # by from_stim.py: it needs the files stim_*.py and streams.py beside it")
-    sys.exit(f"from_stim.py needs Python 3.8 or later, and the files stim_*.py and streams.py beside it: {missing}")
+    print("NOT_CONVERTED # by from_stim.py: it needs the files stim_*.py and script_streams.py beside it")
+    sys.exit(f"from_stim.py needs Python 3.8 or later, and the files stim_*.py and script_streams.py beside it: {missing}")
 
 SHOWN = 3
 

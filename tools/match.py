@@ -25,7 +25,7 @@ from pathlib import Path
 
 try:
     import rotated_code
-    import streams
+    import script_streams as streams
     from detector_choice import CannotMatch, check_choice, choose_by_place, choose_detectors
     from error_model import ModelError, read_model
 except ImportError as missing:

@@ -14,7 +14,7 @@ import argparse
 import re
 import sys
 
-import streams
+import script_streams as streams
 
 # The places of the four data qubits round a check, in the order in which it meets them. The orders of the two kinds differ: so
 # an error on a check's qubit, in the midst of a round, spreads across the logical operator that it could shorten, not along it.

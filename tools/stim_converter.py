@@ -249,8 +249,10 @@ def convert_observable(text):
     value = read_number(text)
     if value != value.to_integral_value():
         raise Refused(f"the observable {shown(text)} is no whole number")
-    if not 0 <= value < MOST_OBSERVABLES:
-        raise Refused(f"the observable {shown(text)} is no number from 0 to {MOST_OBSERVABLES - 1}")
+    if value < 0:
+        raise Refused(f"the observable {shown(text)} is below 0")
+    if value >= MOST_OBSERVABLES:
+        raise Refused(f"the observable {shown(text)} is beyond {MOST_OBSERVABLES - 1}")
     return text if re.fullmatch(r"\d+", text) else str(int(value))
 
 

@@ -99,7 +99,7 @@ class Refusals(unittest.TestCase):
             shutil.copy(FROM_STIM, folder)
             done = run([sys.executable, Path(folder) / FROM_STIM.name], b"H 0")
         self.assertEqual(done.returncode, 1)
-        self.assertRegex(done.stderr.decode(), r"\Afrom_stim.py needs .*the files stim_\*\.py and streams\.py beside it[^\n]*\n\Z")
+        self.assertRegex(done.stderr.decode(), r"\Afrom_stim.py needs .*the files stim_\*\.py and script_streams\.py beside it[^\n]*\n\Z")
         self.assert_refused_as_text(done, "analyze")
 
 

@@ -24,7 +24,7 @@ REFUSED = [
     ("OBSERVABLE_INCLUDE(0) X1", 1, "sums of records"),
     ("OBSERVABLE_INCLUDE(0) rec[-1] Z1", 1, "sums of records"),
     ("OBSERVABLE_INCLUDE(0) 1", 1, "no target"),
-    ("OBSERVABLE_INCLUDE(1024)", 1, "beyond 1023"),
+    ("OBSERVABLE_INCLUDE(1024)", 1, "beyond 1023"), ("OBSERVABLE_INCLUDE(-1)", 1, "below 0"),
     ("OBSERVABLE_INCLUDE(0.5)", 1, "no whole number"),
     ("OBSERVABLE_INCLUDE", 1, "takes 1 arguments, not 0"),
     ("H 0\nMPP X0*Y0", 2, "anti-Hermitian"),
