@@ -76,7 +76,7 @@ nothing_before Fits k behind few = record { tree = Nothing; written = refl; fit 
 
 -- ---- lines
 
-line_fits : {I : Type 0} (Fits : I → Type 0) (format : Format I) → LinesFit Fits format → (opened : List ℕ) (n : ℕ) (line : List ℕ) → ReadingFits Fits (length opened) (line_reading format opened n line)
+pub line_fits : {I : Type 0} (Fits : I → Type 0) (format : Format I) → LinesFit Fits format → (opened : List ℕ) (n : ℕ) (line : List ℕ) → ReadingFits Fits (length opened) (line_reading format opened n line)
 line_fits Fits format fit opened n line =
     elim (cases_Bool (has_bad_byte line)) [
       | inl e ↦ rw e tt
@@ -132,10 +132,14 @@ written_from {I} Fits items b =
 accepted_from : {I : Type 0} (Fits : I → Type 0) (r : Result (List (Item I)) Fault) → IfOk r (Balanced Fits 0) → (items : List (Item I)) → r ≡ Ok items → IsWritten Fits items
 accepted_from {I} Fits r b items e = written_from Fits items (subst (λ (x : Result (List (Item I)) Fault). IfOk x (Balanced Fits 0)) e b)
 
--- the items of a text that is accepted are those of a tree that fits
+-- the items of lines that are accepted, behind so many, are those of a tree that fits
+pub lines_are_written : {I : Type 0} (Fits : I → Type 0) (format : Format I) → LinesFit Fits format → (read : ℕ) (lines : List (List ℕ)) (items : List (Item I)) → items_from format [] read lines ≡ Ok items → IsWritten Fits items
+lines_are_written Fits format fit read lines items e =
+    accepted_from Fits (items_from format [] read lines) (balanced Fits format fit [] read lines (omega arith)) items e
+
+-- the same of a text
 pub items_are_written : {I : Type 0} (Fits : I → Type 0) (format : Format I) → LinesFit Fits format → (text : List ℕ) (items : List (Item I)) → items_in format text ≡ Ok items → IsWritten Fits items
-items_are_written Fits format fit text items e =
-    accepted_from Fits (items_in format text) (balanced Fits format fit [] 0 (lines_of text) (omega arith)) items e
+items_are_written Fits format fit text items e = lines_are_written Fits format fit 0 (lines_of text) items e
 
 judged_either : {I : Type 0} (Fits : I → Type 0) (r : Result (List (Item I)) Fault) → ((items : List (Item I)) → r ≡ Ok items → IsWritten Fits items) → ((t : Tree I) × (r ≡ Ok (items_of t))) ⊎ ((fault : Fault) × (r ≡ Err fault))
 judged_either {I} Fits (Ok items) w = inl (tree_of items, ap (λ (is : List (Item I)). Ok is) (sym (w items refl).written))
