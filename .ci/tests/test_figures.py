@@ -95,7 +95,7 @@ FIGURES = {
     ],
     "lines that the blocks of a model unroll to": [
         (FORMATS, rf"lines that blocks unroll to \| {NUMBER} \|"),
-        ("crates/dem_text/src/unrolled.rt", rf"MOST_LINES: u128 = {NUMBER};"),
+        ("crates/dem_text/src/counting.rt", rf"MOST_LINES: u64 = {NUMBER};"),
     ],
 }
 

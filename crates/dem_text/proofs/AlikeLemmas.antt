@@ -15,11 +15,11 @@ use Rattle.dem_text.specs.Instructions.{keyword_named}
 use Rattle.dem_text.specs.Limits.{are_of_form, has_target_beyond, is_effect}
 use Rattle.dem_text.specs.Targets.{targets_in}
 use Rattle.dem_text.specs.Verdicts.{model_table}
-use Rattle.dem_text.specs.declared.counts.Extent.{Extent}
+use Rattle.dem_text.specs.declared.brief.Extent.{Extent}
 use Rattle.dem_text.specs.private.ErrorTexts.{AreCounted, BeginsWithTargets, is_quiet}
 use Rattle.stim_lexer.specs.FirstLines.{IsFirstLine}
-use Rattle.dem_text.specs.private.LinesRead.{BeginsWithError, IsErrorLine}
-use Rattle.dem_text.specs.private.Standing.{instruction_cut, read_targets}
+use Rattle.dem_text.specs.private.Lines.{BeginsWithError, IsErrorLine}
+use Rattle.dem_text.specs.private.Lines.{instruction_cut, read_targets}
 use Rattle.dem_text.specs.private.Tables.{IsKnown}
 use Rattle.stim_lexer.specs.Bytes.{from_first, is_close_parenthesis, is_line_feed}
 use Rattle.stim_lexer.proofs.ScanLemmas.{lines_of-cut}

@@ -1,56 +1,67 @@
--- Instructions in no block and with no shift among them, before what follows: the model of a text that writes them.
-use Rattle.std.proofs.Common.{◌≡◌, ℕ, false, nat_lt, List, [], ◌∷◌, ◌++◌, append-nil, map, None, Ok, refl, ap, ap₂, sym, ◌∙◌}
+-- Instructions in no block and with no shift among them: they are reached as they stand, one after another. The model of a text
+-- that writes them.
+use Rattle.std.proofs.Common.{◌≡◌, ℕ, ◌+◌, false, nat_lt, List, [], ◌∷◌, map, None, Ok, refl, ap, ap₂, sym, ◌∙◌, arith}
 use Rattle.std.specs.Prelude.{⊤}
 use Rattle.std.specs.List.{list_any}
-use Rattle.std.proofs.lemmas.Bool.{or_from, or_parts, true≢false}
+use Rattle.std.proofs.lemmas.Bool.{or_from, or_parts}
 use Rattle.stim_parser.proofs.WholeNumberLemmas.{magnitude_kept}
 use Rattle.stim_parser.specs.Numbers.{is_number_beyond, magnitude_of, whole_value}
 use Rattle.dem_text.specs.declared.operation.Operation.{Operation}
 use Rattle.dem_text.specs.declared.operation.Operation.TheVariants.{PauliError, DetectorDeclaration, ObservableInclude, Shifts}
 use Rattle.dem_text.specs.declared.target.Target.{Target}
+use Rattle.dem_text.specs.declared.target.Target.TheVariants.{Plain, Detector, Observable, Separator}
 use Rattle.dem_text.specs.Fitting.{Fits, AllFit}
 use Rattle.dem_text.specs.Limits.{has_target_beyond}
-use Rattle.dem_text.specs.Reached.{block_lines, has_many_lines, most_lines}
+use Rattle.dem_text.specs.Reached.{block_lines, most_lines}
 use Rattle.dem_text.specs.Texts.{items_in}
-use Rattle.stim_lexer.specs.Trees.{InstructionLine, Nothing, items_of}
+use Rattle.stim_lexer.specs.Trees.{InstructionLine, Nothing, Then, items_of}
 use Rattle.dem_text.specs.Trees.{Tree}
 use Rattle.dem_text.specs.Judged.{Writes}
 use Rattle.dem_text.specs.Verdicts.{Instruction}
 use Rattle.dem_text.proofs.TreeLemmas.{each_tree_is_accepted}
-pub use Rattle.dem_text.specs.private.Chains.{AllStay, placed}
-use Rattle.dem_text.specs.private.Chains.{is_shift}
-use Rattle.dem_text.specs.private.Leading.{before_tree}
 use Rattle.dem_text.specs.Meanings.{meaning_of}
 use Rattle.dem_text.specs.Models.{first_beyond, is_beyond, is_coordinate_beyond, model_in, placed_lines}
-use Rattle.dem_text.specs.Shifts.{Placed, coordinates_given, no_shift, placed_at, placed_from, shifted_by}
-use Rattle.dem_text.proofs.PlaceLemmas.{unmoved}
+use Rattle.dem_text.specs.Shifts.{Placed, coordinates_given, no_shift, placed_at, placed_from, shift_after, shifted_target}
 use Rattle.dem_text.proofs.ReadLemmas.{read-model, whole-model}
 use Rattle.dem_text.proofs.ShiftLemmas.{moved-none}
 
--- ---- the tree that they stand before
+abbrev pub AllStay : List Instruction → Type 0
+AllStay [] = ⊤
+AllStay (i ∷ is) = (shift_after i no_shift ≡ no_shift) × AllStay is
 
-pub items-led : (is : List Instruction) (t : Tree) → items_of (before_tree is t) ≡ map InstructionLine is ++ items_of t
-items-led [] t = refl
-items-led (i ∷ is) t = ap (λ items. InstructionLine i ∷ items) (items-led is t)
+-- an instruction where nothing is shifted
+abbrev pub placed : Instruction → Placed
+placed i = record (placed_at no_shift i) { targets = i.targets }
 
-lines-led : (is : List Instruction) (t : Tree) → block_lines (before_tree is t) ≡ block_lines t
+-- ---- their tree
+
+abbrev chain : List Instruction → Tree
+chain [] = Nothing
+chain (i ∷ is) = Then i (chain is)
+
+chain-items : (is : List Instruction) → items_of (chain is) ≡ map InstructionLine is
+chain-items [] = refl
+chain-items (i ∷ is) = ap (λ items. InstructionLine i ∷ items) (chain-items is)
+
+no_blocks : (is : List Instruction) → block_lines (chain is) ≡ 0
 unfolding block_lines
-lines-led [] t = refl
-lines-led (i ∷ is) t = lines-led is t
+no_blocks [] = refl
+no_blocks (i ∷ is) = no_blocks is
 
-pub many-led : (is : List Instruction) (t : Tree) → has_many_lines (before_tree is t) ≡ has_many_lines t
-many-led is t = ap (λ n. nat_lt most_lines n) (lines-led is t)
+-- targets where nothing is shifted
+unmoved : (ts : List Target) → map (shifted_target 0) ts ≡ ts
+unmoved [] = refl
+unmoved (Plain n ∷ ts) = ap (λ us. Plain n ∷ us) (unmoved ts)
+unmoved (Detector d ∷ ts) = let same : d + 0 ≡ d = omega arith in ap₂ (λ e us. Detector e ∷ us) same (unmoved ts)
+unmoved (Observable k ∷ ts) = ap (λ us. Observable k ∷ us) (unmoved ts)
+unmoved (Separator ∷ ts) = ap (λ us. Separator ∷ us) (unmoved ts)
 
-pub placed-led : (is : List Instruction) (t : Tree) → AllStay is → placed_lines (before_tree is t) ≡ map placed is ++ placed_lines t
+chain-placed : (is : List Instruction) → AllStay is → placed_lines (chain is) ≡ map placed is
 unfolding placed_from
-placed-led [] t h = refl
-placed-led (i ∷ is) t h =
+chain-placed [] h = refl
+chain-placed (i ∷ is) h =
     rw (h.0)
-    (ap₂ (λ (p : Placed) (ps : List Placed). p ∷ ps) (ap (λ (ts : List Target). record (placed_at no_shift i) { targets = ts }) (unmoved i.targets)) (placed-led is t h.1))
-
-pub stay-both : (is js : List Instruction) → AllStay is → AllStay js → AllStay (is ++ js)
-stay-both [] js h k = k
-stay-both (i ∷ is) js h k = (h.0, stay-both is js h.1 k)
+    (ap₂ (λ (p : Placed) (ps : List Placed). p ∷ ps) (ap (λ (ts : List Target). record (placed_at no_shift i) { targets = ts }) (unmoved i.targets)) (chain-placed is h.1))
 
 -- ---- no number is beyond its limit
 
@@ -68,49 +79,22 @@ coordinates_near line DetectorDeclaration arguments targets fits =
 coordinates_near line ObservableInclude arguments targets fits = refl
 coordinates_near line Shifts arguments targets fits = refl
 
--- no number of an instruction is beyond its limit
-abbrev pub AllNear : List Instruction → Type 0
-AllNear [] = ⊤
-AllNear (i ∷ is) = (is_beyond (placed i) ≡ false) × AllNear is
-
-pub near-fitting : (i : Instruction) → Fits i → is_beyond (placed i) ≡ false
+near-fitting : (i : Instruction) → Fits i → is_beyond (placed i) ≡ false
 near-fitting i fits =
     or_from (has_target_beyond i.targets) (list_any is_coordinate_beyond (coordinates_given i.operation i.arguments [])) fits.targets_within
     (coordinates_near i.line i.operation i.arguments i.targets fits)
 
-fit-near : (is : List Instruction) (t : Tree) → AllFit (before_tree is t) → AllNear is
-fit-near [] t h = tt
-fit-near (i ∷ is) t h = (near-fitting i h.0, fit-near is t h.1)
-
-pub near-led : (is : List Instruction) (ps : List Placed) → AllNear is → first_beyond (map placed is ++ ps) ≡ first_beyond ps
-near-led [] ps h = refl
-near-led (i ∷ is) ps h = let here : is_beyond (placed i) ≡ false = h.0 in rw here (near-led is ps h.1)
-
-pub near-both : (is js : List Instruction) → AllNear is → AllNear js → AllNear (is ++ js)
-near-both [] js h k = k
-near-both (i ∷ is) js h k = (h.0, near-both is js h.1 k)
-
-pub stays : (operation : Operation) (arguments : List (List ℕ)) (targets : List Target) → is_shift operation ≡ false → shifted_by operation arguments targets no_shift ≡ no_shift
-stays PauliError arguments targets h = refl
-stays DetectorDeclaration arguments targets h = refl
-stays ObservableInclude arguments targets h = refl
-stays Shifts arguments targets h = absurd (true≢false h)
+chain-near : (is : List Instruction) → AllFit (chain is) → first_beyond (map placed is) ≡ None
+chain-near [] h = refl
+chain-near (i ∷ is) h = let here = near-fitting i h.0 in rw here (chain-near is h.1)
 
 -- ---- the model
 
-none-placed : placed_lines Nothing ≡ []
-unfolding placed_from
-none-placed = refl
-
-no-lines : has_many_lines Nothing ≡ false
-unfolding block_lines
-no-lines = refl
-
 pub chain_means : (text : List ℕ) (is : List Instruction) → AllStay is → items_in text ≡ Ok (map InstructionLine is) → model_in text ≡ Ok (meaning_of (map placed is))
 chain_means text is still e =
-    let t = before_tree is Nothing in
-    let writes : Writes text t = e ∙ ap Ok (sym (items-led is Nothing ∙ append-nil (map InstructionLine is))) in
-    let all = placed-led is Nothing still ∙ ap (λ ps. map placed is ++ ps) none-placed in
-    let near : first_beyond (placed_lines t) ≡ None = ap first_beyond all ∙ near-led is [] (fit-near is Nothing (each_tree_is_accepted text t writes).fit) in
-    read-model text t (meaning_of (map placed is)) writes
-    (whole-model t (meaning_of (map placed is)) (many-led is Nothing ∙ no-lines) near (ap meaning_of (sym (all ∙ append-nil (map placed is)))))
+    let writes : Writes text (chain is) = e ∙ ap Ok (sym (chain-items is)) in
+    let all = chain-placed is still in
+    read-model text (chain is) (meaning_of (map placed is)) writes
+    (whole-model (chain is) (meaning_of (map placed is)) (ap (λ n. nat_lt most_lines n) (no_blocks is))
+    (ap first_beyond all ∙ chain-near is (each_tree_is_accepted text (chain is) writes).fit)
+    (ap meaning_of (sym all)))

@@ -10,7 +10,7 @@ use Rattle.stim_lexer.specs.Bytes.{is_blank, is_empty}
 use Rattle.stim_parser.specs.Numbers.{number_of}
 use Rattle.stim_parser.specs.Pieces.{ends_here, ends_piece, is_star, pieces_of}
 use Rattle.stim_parser.specs.Targets.{each_of}
-use Rattle.dem_text.specs.declared.counts.Extent.{Extent}
+use Rattle.dem_text.specs.declared.brief.Extent.{Extent}
 use Rattle.dem_text.specs.declared.target.Target.{Target}
 use Rattle.dem_text.specs.declared.target.Target.TheVariants.{Detector, Observable}
 use Rattle.dem_text.specs.private.ErrorTexts.{AreCounted, BeginsWithTargets, IsNumberFront, IsTargetFront, ends_line, is_quiet, is_word_byte}

@@ -1,5 +1,5 @@
 -- The numbers that stand an odd number of times among ascending ones, kept one after another.
-use Rattle.std.proofs.Common.{◌≡◌, ℕ, zero, suc, ◌+◌, ◌-◌, ◌==◌, ◌<◌, ◌≤◌, Bool, true, false, not, List, [], ◌∷◌, ◌++◌, length, get_or, take, refl, ap, ap₂, subst, sym, ◌∙◌, append-nil, arith}
+use Rattle.std.proofs.Common.{◌≡◌, ℕ, zero, suc, ◌+◌, ◌-◌, ◌==◌, ◌<◌, ◌≤◌, Bool, true, false, not, List, [], ◌∷◌, ◌++◌, length, get_or, take, refl, ap, ap₂, subst, sym, ◌∙◌, append-nil, arith, length-append}
 use Rattle.std.specs.Prelude.{filter, cond, All}
 use Rattle.std.specs.List.{range_with_len}
 use Rattle.std.specs.List.Sorted.{IsNonDecreasing}
@@ -74,7 +74,7 @@ odd-step kept kept' p x low before there absent n high =
     let next : odd_below (x + 1) (p ++ x ∷ []) ≡ q ++ cond (not odd) (x ∷ []) [] =
     filter_range_more (λ t. is_listed (p ++ x ∷ []) t) x ∙ ap₂ (λ xs b. xs ++ cond b (x ∷ []) []) same here in
     let last : x < n =
-    subst (λ m. m < n) (get_or-append_seam p x [] 0) (high (length p) 0 (omega (arith, length-push p x))) in
+    subst (λ m. m < n) (get_or-append_seam p x [] 0) (high (length p) 0 (omega (arith, length-append p (x ∷ [])))) in
     let more : n ≡ x + 1 + (n - (x + 1)) = omega (arith, last) in
     let past : odd_below n (p ++ x ∷ []) ≡ odd_below (x + 1) (p ++ x ∷ []) =
     ap (λ m. odd_below m (p ++ x ∷ [])) more
@@ -84,10 +84,6 @@ odd-step kept kept' p x low before there absent n high =
     chosen kept kept' q x odd now (All-filter (λ t. is_listed p t) (λ t. t < x) (range_with_len 0 x) (all-below x)) there absent
     ∙ sym next
     ∙ sym past
-  where
-    length-push : (xs : List ℕ) (y : ℕ) → length (xs ++ y ∷ []) ≡ length xs + 1
-    length-push [] y = refl
-    length-push (x ∷ xs) y = let rest = length-push xs y in omega (arith, rest)
 
 -- what stands before a number of ascending ones is no greater
 pub none-above : (xs : List ℕ) (i d : ℕ) → IsNonDecreasing xs → i < length xs → All (λ m. m ≤ get_or xs i d) (take i xs)

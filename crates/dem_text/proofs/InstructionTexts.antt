@@ -25,7 +25,7 @@ abbrev pub target_words : List Target → List ℕ
 target_words targets = flat_map (λ t. 32 ∷ target_word t) targets
 
 -- what follows the name
-abbrev pub after_name_text : List (List ℕ) → List Target → List ℕ
+abbrev after_name_text : List (List ℕ) → List Target → List ℕ
 after_name_text arguments targets = in_parentheses arguments ++ target_words targets
 
 abbrev pub instruction_line : Operation → List (List ℕ) → List Target → List ℕ

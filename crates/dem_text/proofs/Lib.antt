@@ -1,43 +1,40 @@
-mod WalkSteps
-pub mod SumLemmas
-pub mod SummedLemmas
-mod WorkedTexts
-pub mod FrontLemmas
-mod ShiftLemmas
-pub mod CountLemmas
-pub mod FlipLemmas
-pub mod NumberLemmas
-mod MarkLemmas
-mod BuildLemmas
-mod ReadLemmas
+pub mod AlikeLemmas
+pub mod AscendingLemmas
+pub mod BitsLemmas
+pub mod BuildLemmas
 pub mod ChainLemmas
-mod TableLemmas
-mod WalkLemmas
-mod UnrolledLemmas
-mod KeptLemmas
-mod PlaceLemmas
-mod LineLemmas
-mod AlikeLemmas
-mod CountedLemmas
-mod ReadingLemmas
-mod LeadingLemmas
-mod LedLemmas
-mod TakingLemmas
-mod OverLemmas
-mod FeedLemmas
-mod KeptTextLemmas
-mod KeptModelLemmas
+pub mod CountLemmas
+pub mod CountedLemmas
 pub mod FitLemmas
-pub mod TreeLemmas
-pub mod PassLemmas
-mod InstructionTexts
-mod LineCutLemmas
-mod LineReadLemmas
-mod TextReadLemmas
-mod ModelInstructions
-mod StandLemmas
-mod AscendingLemmas
-mod MeaningLemmas
-mod ReadModelLemmas
+pub mod FlipLemmas
+pub mod FoldLemmas
+pub mod GatheringLemmas
+pub mod InstructionTexts
+pub mod KeepingLemmas
+pub mod LaterLemmas
+pub mod LineCutLemmas
+pub mod LineLemmas
+pub mod LineReadLemmas
+pub mod MakingLemmas
+pub mod MarkLemmas
+pub mod MeaningLemmas
+pub mod ModelInstructions
+pub mod NearLemmas
+pub mod NumberLemmas
+pub mod OverKept
+pub mod PassedLemmas
+pub mod PredictedLemmas
 pub mod ProgramLemmas
-mod ReadNumberLemmas
+pub mod ReadLemmas
+pub mod ReadModelLemmas
+pub mod ReaderLemmas
+pub mod ShiftLemmas
+pub mod StandLemmas
+pub mod StandingLemmas
+pub mod SumLemmas
+pub mod SymptomLemmas
+pub mod TableLemmas
+pub mod TextReadLemmas
+pub mod TreeLemmas
+pub mod UnrolledLemmas
+pub mod VerdictLemmas

@@ -79,7 +79,7 @@ pub targets_are_words : (targets : List Target) → has_target_beyond targets �
 unfolding has_target_beyond
 targets_are_words targets h = all_are_words targets h
 
-pub targets_read : (targets : List Target) → has_target_beyond targets ≡ false → targets_in (target_words targets) ≡ Some targets
+targets_read : (targets : List Target) → has_target_beyond targets ≡ false → targets_in (target_words targets) ≡ Some targets
 unfolding targets_in has_target_beyond
 targets_read targets h = ap (each_of target_of) (pieces_found targets (all_are_words targets h)) ∙ each_read targets h
 

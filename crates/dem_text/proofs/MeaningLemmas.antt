@@ -1,10 +1,11 @@
 -- The instructions of a model that can be written mean that model.
-use Rattle.std.proofs.Common.{◌≡◌, ℕ, zero, suc, ◌+◌, ◌-◌, ◌==◌, ◌≤◌, ◌<◌, ◌^◌, max, nat_lt, Bool, true, false, not, ◌||◌, ◌&&◌, if◌then◌else◌, ℤ, nat_abs, List, [], ◌∷◌, ◌++◌, map, length, Result, Ok, refl, ap, ap₂, sym, ◌∙◌, append-nil, inl, inr, arith, All}
+use Rattle.std.proofs.Common.{◌≡◌, ℕ, zero, suc, ◌+◌, ◌-◌, ◌==◌, ◌≤◌, ◌<◌, ◌^◌, max, nat_lt, Bool, true, false, not, ◌||◌, ◌&&◌, if◌then◌else◌, ℤ, nat_abs, List, [], ◌∷◌, ◌++◌, map, Result, Ok, refl, ap, ap₂, sym, ◌∙◌, append-nil, inl, inr, arith, All}
 use Rattle.std.specs.Prelude.{slice_index_or}
 use Rattle.std.specs.Fmt.{signed_decimal}
 use Rattle.std.specs.List.{range_with_len}
 use Rattle.std.proofs.lemmas.Bool.{cases_Bool, cases_eq, eq-eqb, ltb-false, ltb-true, ne_eqb}
-use Rattle.std.proofs.lemmas.List.{map-append}
+use Rattle.std.proofs.lemmas.List.{ext_get_or, map-append}
+use Rattle.std.proofs.lemmas.List.FromFn.{get_or-map-range_with_len, length-map-range_with_len}
 use Rattle.step_model.specs.ErrorModels.{ErrorLine, ErrorModel}
 use Rattle.step_model.specs.declared.fault.Fault.{Fault}
 use Rattle.step_model.specs.WellFormed.{CoordinatesFit}
@@ -13,7 +14,6 @@ use Rattle.stim_parser.specs.Numbers.{whole_value}
 use Rattle.error_models.specs.ModelText.{model_text}
 use Rattle.dem_text.specs.declared.target.Target.{Target}
 use Rattle.dem_text.specs.Meanings.{detector_count, detectors_to, error_line, error_lines, gives_coordinates, last_coordinates, meaning_of, observable_count, observables_to, numbered}
-use Rattle.dem_text.specs.private.Summed.{greatest_over}
 use Rattle.stim_lexer.specs.Reached.{greatest_by}
 use Rattle.dem_text.specs.Models.{model_in}
 use Rattle.dem_text.specs.private.Numbered.{odd_below, numbers_of}
@@ -24,7 +24,7 @@ use Rattle.dem_text.proofs.AscendingLemmas.{odd_below-ascending}
 use Rattle.dem_text.proofs.ModelInstructions.{detector_instruction, detector_instructions, error_instruction, error_instructions, instructions_of, instructions_text, observable_instruction, observable_instructions, target_of_number}
 use Rattle.stim_parser.proofs.NumberLemmas.{signed_decimal_is_whole}
 use Rattle.dem_text.proofs.StandLemmas.{instructions_stand}
-use Rattle.dem_text.proofs.TextReadLemmas.{text_means}
+use Rattle.dem_text.proofs.TextReadLemmas.{greatest_over, text_means}
 use Rattle.dem_text.proofs.BuildLemmas.{error_lines-append}
 use Rattle.dem_text.proofs.ShiftLemmas.{moved-none}
 
@@ -41,17 +41,9 @@ observables_placed ks = map placed (map observable_instruction ks)
 
 -- ---- how many detectors and observables
 
-max_assoc : (a b c : ℕ) → max a (max b c) ≡ max (max a b) c
-max_assoc a b c = omega arith
-
-none_greater : (n : ℕ) → n ≡ max 0 n
-none_greater n = omega arith
-
 greatest-append : (count : Target → ℕ) (xs ys : List Placed) → greatest_over count (xs ++ ys) ≡ max (greatest_over count xs) (greatest_over count ys)
-greatest-append count [] ys = none_greater (greatest_over count ys)
-greatest-append count (p ∷ xs) ys =
-    ap (λ n. max (greatest_by count p.targets) n) (greatest-append count xs ys)
-    ∙ max_assoc (greatest_by count p.targets) (greatest_over count xs) (greatest_over count ys)
+greatest-append count [] ys = omega arith
+greatest-append count (p ∷ xs) ys = let rest = greatest-append count xs ys in omega (arith, rest)
 
 targets_reach : (detectors : ℕ) (targets : List ℕ) → greatest_by detectors_to (map (target_of_number detectors) targets) ≤ detectors
 targets_reach detectors [] = omega arith
@@ -98,13 +90,6 @@ observables_reach k (suc n) = let rest = observables_reach (k + 1) n in omega (a
 observables_reach_none : (ks : List ℕ) → greatest_over detectors_to (observables_placed ks) ≡ 0
 observables_reach_none [] = refl
 observables_reach_none (k ∷ ks) = let rest = observables_reach_none ks in omega (arith, rest)
-
--- the greatest of three, the second of which all are within, and the third
-second_of_three : (a b c n : ℕ) → a ≤ n → max 0 b ≡ 0 + n → c ≡ 0 → max a (max b c) ≡ n
-second_of_three a b c n h i j = omega (arith, h, i, j)
-
-third_of_three : (a b c n : ℕ) → a ≤ n → b ≡ 0 → max 0 c ≡ 0 + n → max a (max b c) ≡ n
-third_of_three a b c n h i j = omega (arith, h, i, j)
 
 -- ---- error lines
 
@@ -200,14 +185,6 @@ detector_gives d coordinates k (suc n) low high fit =
           ∙ detector_gives d coordinates (k + 1) n (omega (arith, low, differ)) (omega (arith, high)) fit
     ]
 
--- a list by its places
-each_place : (f : ℕ → List ℤ) (k : ℕ) (xs : List (List ℤ)) → ((j : ℕ) → j < length xs → f (k + j) ≡ slice_index_or xs j []) → map f (range_with_len k (length xs)) ≡ xs
-each_place f k [] h = refl
-each_place f k (x ∷ xs) h =
-    let here : k ≡ k + 0 = omega arith in
-    ap₂ (λ (y : List ℤ) (ys : List (List ℤ)). y ∷ ys) (ap f here ∙ h 0 (omega arith))
-    (each_place f (k + 1) xs (λ j below. let next : k + 1 + j ≡ k + suc j = omega arith in ap f next ∙ h (suc j) (omega (arith, below))))
-
 -- ---- the model
 
 -- lines with these counts, errors and coordinates mean the model
@@ -229,55 +206,52 @@ all_of model = errors_of model ++ (detectors_of model ++ observables_of model)
 
 all_placed : (model : ErrorModel) → map placed (instructions_of model) ≡ all_of model
 all_placed model =
-    map-append placed (error_instructions model) (detector_instructions model ++ observable_instructions model)
-    ∙ ap (λ (ps : List Placed). errors_of model ++ ps) (map-append placed (detector_instructions model) (observable_instructions model))
+    rw (map-append placed (error_instructions model) _, map-append placed (detector_instructions model) (observable_instructions model)) refl
 
 greatest_of_all : (count : Target → ℕ) (model : ErrorModel)
     → greatest_over count (all_of model) ≡ max (greatest_over count (errors_of model)) (max (greatest_over count (detectors_of model)) (greatest_over count (observables_of model)))
 greatest_of_all count model =
-    greatest-append count (errors_of model) (detectors_of model ++ observables_of model)
-    ∙ ap (λ (n : ℕ). max (greatest_over count (errors_of model)) n) (greatest-append count (detectors_of model) (observables_of model))
+    rw (greatest-append count (errors_of model) _, greatest-append count (detectors_of model) (observables_of model)) refl
 
 detectors_counted : (model : ErrorModel) → detector_count (all_of model) ≡ model.detectors
 detectors_counted model =
-    greatest_of_all detectors_to model
-    ∙ second_of_three (greatest_over detectors_to (errors_of model)) (greatest_over detectors_to (detectors_of model)) (greatest_over detectors_to (observables_of model)) model.detectors
-    (errors_reach model.detectors model.lines) (detectors_reach model.coordinates 0 model.detectors) (observables_reach_none (range_with_len 0 model.observables))
+    let all = greatest_of_all detectors_to model in
+    let errors = errors_reach model.detectors model.lines in
+    let detectors = detectors_reach model.coordinates 0 model.detectors in
+    let observables = observables_reach_none (range_with_len 0 model.observables) in
+    omega (arith, all, errors, detectors, observables)
 
 observables_counted : (model : ErrorModel) → IsWritable model → observable_count (all_of model) ≡ model.observables
 observables_counted model h =
-    greatest_of_all observables_to model
-    ∙ third_of_three (greatest_over observables_to (errors_of model)) (greatest_over observables_to (detectors_of model)) (greatest_over observables_to (observables_of model)) model.observables
-    (errors_reach_observables model.detectors model.observables model.lines h.lines) (detectors_reach_none model.coordinates (range_with_len 0 model.detectors)) (observables_reach 0 model.observables)
+    let all = greatest_of_all observables_to model in
+    let errors = errors_reach_observables model.detectors model.observables model.lines h.lines in
+    let detectors = detectors_reach_none model.coordinates (range_with_len 0 model.detectors) in
+    let observables = observables_reach 0 model.observables in
+    omega (arith, all, errors, detectors, observables)
 
 errors_found : (model : ErrorModel) → IsWritable model → error_lines model.detectors model.observables (all_of model) ≡ model.lines
 errors_found model h =
-    error_lines-append model.detectors model.observables (errors_of model) (detectors_of model ++ observables_of model)
-    ∙ ap₂ (λ (xs ys : List ErrorLine). xs ++ ys) (lines_found model.detectors model.observables model.lines h.lines)
-    (error_lines-append model.detectors model.observables (detectors_of model) (observables_of model)
-    ∙ ap₂ (λ (xs ys : List ErrorLine). xs ++ ys) (no_error_detects model.detectors model.observables model.coordinates (range_with_len 0 model.detectors))
-    (no_error_observes model.detectors model.observables (range_with_len 0 model.observables)))
-    ∙ append-nil model.lines
+    let detectors = model.detectors in
+    let observables = model.observables in
+    rw (error_lines-append detectors observables (errors_of model) _, error_lines-append detectors observables (detectors_of model) (observables_of model), lines_found detectors observables model.lines h.lines, no_error_detects detectors observables model.coordinates (range_with_len 0 detectors), no_error_observes detectors observables (range_with_len 0 observables))
+    (append-nil model.lines)
 
 coordinates_of : (model : ErrorModel) (d : ℕ) → IsWritable model → d < model.detectors → last_coordinates d [] (all_of model) ≡ slice_index_or model.coordinates d []
 coordinates_of model d h below =
     let given = h.coordinates_given in
-    last-append d [] (errors_of model) (detectors_of model ++ observables_of model)
-    ∙ ap (λ (found : List ℤ). last_coordinates d found (detectors_of model ++ observables_of model)) (errors_give_none d [] model.detectors model.lines)
-    ∙ last-append d [] (detectors_of model) (observables_of model)
-    ∙ observables_give_none d (last_coordinates d [] (detectors_of model)) (range_with_len 0 model.observables)
-    ∙ detector_gives d model.coordinates 0 model.detectors (omega arith) (omega (arith, below)) (h.coordinates_fit d [] (omega (arith, given, below)))
+    rw (last-append d [] (errors_of model) _, errors_give_none d [] model.detectors model.lines, last-append d [] (detectors_of model) (observables_of model), observables_give_none d _ (range_with_len 0 model.observables))
+    (detector_gives d model.coordinates 0 model.detectors (omega arith) (omega (arith, below)) (h.coordinates_fit d [] (omega (arith, given, below))))
 
 all_coordinates : (model : ErrorModel) → IsWritable model → map (λ d. last_coordinates d [] (all_of model)) (range_with_len 0 model.detectors) ≡ model.coordinates
 all_coordinates model h =
-    let given = h.coordinates_given in
-    ap (λ (n : ℕ). map (λ d. last_coordinates d [] (all_of model)) (range_with_len 0 n)) (sym given)
-    ∙ each_place (λ d. last_coordinates d [] (all_of model)) 0 model.coordinates
-    (λ j below.
-    let here : 0 + j ≡ j = omega arith in
-    ap (λ (d : ℕ). last_coordinates d [] (all_of model)) here ∙ coordinates_of model j h (omega (arith, given, below)))
+    let f : ℕ → List ℤ = λ d. last_coordinates d [] (all_of model) in
+    let long = length-map-range_with_len f 0 model.detectors in
+    ext_get_or [] _ _ (long ∙ sym h.coordinates_given)
+    (λ d below.
+    let here : d < model.detectors = omega (arith, below, long) in
+    get_or-map-range_with_len f 0 model.detectors d d [] here (omega arith) ∙ coordinates_of model d h here)
 
-pub instructions_mean : (model : ErrorModel) → IsWritable model → meaning_of (map placed (instructions_of model)) ≡ model
+instructions_mean : (model : ErrorModel) → IsWritable model → meaning_of (map placed (instructions_of model)) ≡ model
 instructions_mean model h =
     ap meaning_of (all_placed model)
     ∙ same_model (all_of model) model (detectors_counted model) (observables_counted model h) (errors_found model h) (all_coordinates model h)

@@ -51,14 +51,12 @@ all_targets detectors (t ∷ targets) = ap₂ (λ (xs ys : List ℕ). xs ++ ys) 
 
 -- a text in parentheses, and what follows it up to the line's end and behind that
 error_end : (text words rest : List ℕ) → (((text ++ []) ++ 41 ∷ []) ++ words) ++ 10 ∷ rest ≡ (((text ++ 41 ∷ []) ++ words) ++ 10 ∷ []) ++ rest
-error_end text words rest =
-    ap (λ (t : List ℕ). ((t ++ 41 ∷ []) ++ words) ++ 10 ∷ rest) (append-nil text) ∙ sym (append_assoc ((text ++ 41 ∷ []) ++ words) (10 ∷ []) rest)
+error_end text words rest = simp (append_assoc, append-nil)
 
 error_line_text : (detectors : ℕ) (line : ErrorLine) (rest : List ℕ)
     → instruction_line PauliError (line.text ∷ []) (map (target_of_number detectors) line.targets) ++ 10 ∷ rest ≡ line_text detectors line ++ rest
 error_line_text detectors line rest =
-    ap (λ (words : List ℕ). codes "error(" ++ (((line.text ++ []) ++ 41 ∷ []) ++ words) ++ 10 ∷ rest) (all_targets detectors line.targets)
-    ∙ ap (λ (t : List ℕ). codes "error(" ++ t) (error_end line.text (targets_text detectors line.targets) rest)
+    rw (all_targets detectors line.targets) (ap (λ (t : List ℕ). codes "error(" ++ t) (error_end line.text (targets_text detectors line.targets) rest))
 
 more_text : (coordinates : List ℤ) → more_arguments (map signed_decimal coordinates) ≡ more_coordinates_text coordinates
 more_text [] = refl
@@ -68,29 +66,23 @@ parentheses_text : (coordinates : List ℤ) → in_parentheses (map signed_decim
 parentheses_text [] = refl
 parentheses_text (c ∷ coordinates) = ap (λ (t : List ℕ). 40 ∷ ((signed_decimal c ++ t) ++ 41 ∷ [])) (more_text coordinates)
 
--- a target alone, and the line's end and what follows
-target_end : (before number rest : List ℕ) (mark : ℕ) → (before ++ (32 ∷ mark ∷ (number ++ []))) ++ 10 ∷ rest ≡ (((before ++ (32 ∷ mark ∷ [])) ++ number) ++ 10 ∷ []) ++ rest
-target_end before number rest mark =
-    ap (λ (t : List ℕ). (before ++ (32 ∷ mark ∷ t)) ++ 10 ∷ rest) (append-nil number)
-    ∙ ap (λ (t : List ℕ). t ++ 10 ∷ rest) (sym (append_assoc before (32 ∷ mark ∷ []) number))
-    ∙ sym (append_assoc ((before ++ (32 ∷ mark ∷ [])) ++ number) (10 ∷ []) rest)
+-- a detector alone, and the line's end and what follows
+target_end : (before number rest : List ℕ) → (before ++ (32 ∷ 68 ∷ (number ++ []))) ++ 10 ∷ rest ≡ (((before ++ (32 ∷ 68 ∷ [])) ++ number) ++ 10 ∷ []) ++ rest
+target_end before number rest = simp (append_assoc, append-nil)
 
 detector_line_text : (d : ℕ) (coordinates : List ℤ) (rest : List ℕ)
     → instruction_line DetectorDeclaration (map signed_decimal coordinates) (Detector d ∷ []) ++ 10 ∷ rest ≡ detector_text d coordinates ++ rest
 detector_line_text d coordinates rest =
-    ap (λ (before : List ℕ). codes "detector" ++ (before ++ (32 ∷ 68 ∷ (decimal d ++ []))) ++ 10 ∷ rest) (parentheses_text coordinates)
-    ∙ ap (λ (t : List ℕ). codes "detector" ++ t) (target_end (coordinates_text coordinates) (decimal d) rest 68)
+    rw (parentheses_text coordinates) (ap (λ (t : List ℕ). codes "detector" ++ t) (target_end (coordinates_text coordinates) (decimal d) rest))
 
 observable_line_text : (k : ℕ) (rest : List ℕ) → instruction_line ObservableInclude [] (Observable k ∷ []) ++ 10 ∷ rest ≡ observable_text k ++ rest
-observable_line_text k rest = ap (λ (t : List ℕ). codes "logical_observable" ++ t) (target_end [] (decimal k) rest 76)
+observable_line_text k rest = simp append_assoc
 
 -- ---- all lines
 
 texts-append : (xs ys : List Instruction) → text_of (xs ++ ys) ≡ text_of xs ++ text_of ys
 texts-append [] ys = refl
-texts-append (i ∷ xs) ys =
-    ap (λ (t : List ℕ). instruction_line i.operation i.arguments i.targets ++ 10 ∷ t) (texts-append xs ys)
-    ∙ sym (append_assoc (instruction_line i.operation i.arguments i.targets) (10 ∷ text_of xs) (text_of ys))
+texts-append (i ∷ xs) ys = rw (texts-append xs ys) (simp append_assoc)
 
 -- instructions whose lines are those of a list
 each_text : {X : Type 0} (i : X → Instruction) (line : X → List ℕ) → ((x : X) (rest : List ℕ) → instruction_line (i x).operation (i x).arguments (i x).targets ++ 10 ∷ rest ≡ line x ++ rest)
@@ -100,11 +92,11 @@ each_text i line same (x ∷ xs) = same x (text_of (map i xs)) ∙ ap (λ (t : L
 
 pub instructions_text : (model : ErrorModel) → text_of (instructions_of model) ≡ model_text model
 instructions_text model =
-    texts-append (error_instructions model) (detector_instructions model ++ observable_instructions model)
-    ∙ ap₂ (λ (xs ys : List ℕ). xs ++ ys)
-    (each_text (error_instruction model.detectors) (line_text model.detectors) (error_line_text model.detectors) model.lines)
-    (texts-append (detector_instructions model) (observable_instructions model)
-    ∙ ap₂ (λ (xs ys : List ℕ). xs ++ ys)
-    (each_text (detector_instruction model.coordinates) (λ d. detector_text d (slice_index_or model.coordinates d [])) (λ d rest. detector_line_text d (slice_index_or model.coordinates d []) rest) (range_with_len 0 model.detectors))
-    (each_text observable_instruction observable_text observable_line_text (range_with_len 0 model.observables)))
-    ∙ sym (append_assoc (lines_text model) (detectors_text model) (observables_text model))
+    rw (
+      texts-append (error_instructions model) _,
+      texts-append (detector_instructions model) (observable_instructions model),
+      each_text (error_instruction model.detectors) (line_text model.detectors) (error_line_text model.detectors) model.lines,
+      each_text (detector_instruction model.coordinates) (λ d. detector_text d (slice_index_or model.coordinates d [])) (λ d rest. detector_line_text d (slice_index_or model.coordinates d []) rest) (range_with_len 0 model.detectors),
+      each_text observable_instruction observable_text observable_line_text (range_with_len 0 model.observables),
+    )
+    (sym (append_assoc (lines_text model) (detectors_text model) (observables_text model)))

@@ -1,35 +1,21 @@
 -- The model of a text, put together from what was read of it.
-use Rattle.std.proofs.Common.{◌≡◌, ℕ, false, List, None, Some, Result, Ok, Err, ◌⊎◌, inl, inr, ap, sym, ◌∙◌}
-use Rattle.std.specs.Prelude.{if◌then◌else◌, option_map, IfOk}
-use Rattle.std.specs.Option.{option_or}
-use Rattle.step_model.specs.declared.fault.Cause.TheVariants as cause
+use Rattle.std.proofs.Common.{◌≡◌, ℕ, false, List, None, Result, Ok, Err, refl, ap, ◌∙◌}
+use Rattle.std.specs.Prelude.{IfOk}
 use Rattle.step_model.specs.declared.fault.Fault.{Fault}
 use Rattle.step_model.specs.ErrorModels.{ErrorModel}
-use Rattle.step_model.specs.Faults.{memory_fault, unless, without_line, ◌>>=◌}
+use Rattle.step_model.specs.Faults.{◌>>=◌}
 use Rattle.dem_text.specs.private.Flat.{tree_of, tree_of-items}
 use Rattle.dem_text.specs.Texts.{Item}
 use Rattle.dem_text.specs.Meanings.{meaning_of}
 use Rattle.dem_text.specs.Models.{first_beyond, model_in, model_of_tree, placed_lines}
 use Rattle.dem_text.specs.Reached.{has_many_lines}
-use Rattle.stim_lexer.specs.Texts.{refused}
 use Rattle.dem_text.specs.Trees.{Tree}
 use Rattle.dem_text.specs.Judged.{IsRefusedBy, Writes}
 
 -- ---- the model of a tree
 
-few-lines : (t : Tree) → has_many_lines t ≡ false → model_of_tree t ≡ unless (option_map (refused cause.DemNumber) (first_beyond (placed_lines t))) (meaning_of (placed_lines t))
-few-lines t e =
-    ap
-    (λ b. unless
-    (option_or (if b then Some (without_line cause.DemSteps) else None) (option_map (refused cause.DemNumber) (first_beyond (placed_lines t))))
-    (meaning_of (placed_lines t)))
-    e
-
 pub whole-model : (t : Tree) (m : ErrorModel) → has_many_lines t ≡ false → first_beyond (placed_lines t) ≡ None → m ≡ meaning_of (placed_lines t) → model_of_tree t ≡ Ok m
-whole-model t m e near is =
-    few-lines t e
-    ∙ ap (λ o. unless (option_map (refused cause.DemNumber) o) (meaning_of (placed_lines t))) near
-    ∙ ap (λ (n : ErrorModel). Ok n) (sym is)
+whole-model t m e near is = rw (e, near, is) refl
 
 -- ---- the model of a text
 
@@ -44,10 +30,6 @@ refused-text text f r = ap model_of_read r
 
 pub read-model : (text : List ℕ) (t : Tree) (m : ErrorModel) → Writes text t → model_of_tree t ≡ Ok m → model_in text ≡ Ok m
 read-model text t m w e = written-model text t w ∙ e
-
-pub refused-model : (text : List ℕ) (t : Tree) (f : Fault) → Writes text t → (f ≡ memory_fault) ⊎ (model_of_tree t ≡ Err f) → (f ≡ memory_fault) ⊎ (model_in text ≡ Err f)
-refused-model text t f w (inl m) = inl m
-refused-model text t f w (inr r) = inr (written-model text t w ∙ r)
 
 -- what two clauses say of an answer together
 pub both-ok : {X E : Type 0} (P Q R : X → Type 0) → ((x : X) → P x → Q x → R x) → (r : Result X E) → IfOk r P → IfOk r Q → IfOk r R

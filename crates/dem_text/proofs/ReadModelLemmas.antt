@@ -1,10 +1,11 @@
 -- The error model that a text writes can be written.
-use Rattle.std.proofs.Common.{◌≡◌, ℕ, zero, suc, ◌+◌, ◌≤◌, ◌<◌, ◌^◌, nat_lt, Bool, true, false, cond, not, ◌&&◌, if◌then◌else◌, ℤ, nat_abs, List, [], ◌∷◌, ◌++◌, map, length, filter, find, Option, None, Some, Result, Ok, Err, option_map, refl, ap, subst, sym, arith, All}
-use Rattle.std.specs.Prelude.{⊤, slice_index_or}
+use Rattle.std.proofs.Common.{◌≡◌, ℕ, zero, suc, ◌+◌, ◌≤◌, ◌<◌, ◌^◌, nat_lt, Bool, true, false, not, ◌&&◌, if◌then◌else◌, ℤ, nat_abs, List, [], ◌∷◌, map, length, filter, Option, None, Some, Result, Ok, Err, option_map, refl, ap, subst, sym, arith, All}
+use Rattle.std.specs.Prelude.{slice_index_or}
 use Rattle.std.specs.List.{list_any, list_all, range_with_len}
 use Rattle.std.specs.Option.{option_or}
 use Rattle.std.proofs.lemmas.Bool.{false≢true, ltb-false, or_parts}
-use Rattle.std.proofs.lemmas.List.Elements.{All-cons, All-filter, All-nil}
+use Rattle.std.proofs.lemmas.List.{length-map}
+use Rattle.std.proofs.lemmas.List.Elements.{All-append, All-cons, All-filter, All-head, All-map, All-nil, All-tail, filter_passes}
 use Rattle.std.proofs.lemmas.List.FromFn.{length-map-range_with_len}
 use Rattle.std.proofs.lemmas.List.Kept.{IsStrictlyIncreasing-filter}
 use Rattle.step_model.specs.declared.fault.Fault.{Fault}
@@ -18,21 +19,20 @@ use Rattle.error_models.specs.ModelText.{model_text}
 use Rattle.dem_text.specs.declared.operation.Operation.{Operation}
 use Rattle.dem_text.specs.declared.operation.Operation.TheVariants.{PauliError, DetectorDeclaration, ObservableInclude, Shifts}
 use Rattle.dem_text.specs.declared.target.Target.{Target}
-use Rattle.dem_text.specs.declared.target.Target.TheVariants.{Plain, Detector, Observable, Separator}
 use Rattle.dem_text.specs.Fitting.{AllFit, Fits}
 use Rattle.dem_text.specs.private.Flat.{tree_of}
-use Rattle.dem_text.specs.Limits.{has_target_beyond, is_target_beyond}
-use Rattle.dem_text.specs.Meanings.{detector_count, detectors_to, error_line, error_lines, gives_coordinates, is_error, last_coordinates, meaning_of, observable_count, observables_to}
-use Rattle.dem_text.specs.private.Summed.{greatest_over}
+use Rattle.dem_text.specs.Limits.{has_target_beyond}
+use Rattle.dem_text.specs.Meanings.{detector_count, error_line, error_lines, gives_coordinates, is_error, last_coordinates, meaning_of, observable_count}
 use Rattle.dem_text.specs.Models.{first_beyond, is_beyond, is_coordinate_beyond, model_in, model_of_tree, placed_lines, refusal_of_tree}
 use Rattle.dem_text.specs.Reached.{has_many_lines}
-use Rattle.stim_lexer.specs.Reached.{copies, reached, greatest_by}
+use Rattle.stim_lexer.specs.Reached.{copies, reached}
 use Rattle.dem_text.specs.Shifts.{Placed, Shift, no_shift, placed_at, placed_from, shift_after}
 use Rattle.stim_parser.specs.Offsets.{moved}
 use Rattle.dem_text.specs.Texts.{Item, items_in}
 use Rattle.dem_text.specs.Trees.{Tree}
 use Rattle.stim_lexer.specs.Trees.{Nothing, Then, Block}
 use Rattle.dem_text.specs.Verdicts.{Instruction}
+use Rattle.dem_text.proofs.NearLemmas.{few-counts, near-first}
 use Rattle.dem_text.proofs.TreeLemmas.{items_are_written}
 use Rattle.dem_text.specs.Writable.{IsWritable, IsWritableLine}
 use Rattle.dem_text.proofs.InstructionTexts.{instruction}
@@ -41,26 +41,15 @@ use Rattle.dem_text.proofs.FlipLemmas.{all-below}
 
 -- ---- instructions that are reached
 
-EachFits : List Instruction → Type 0
-EachFits [] = ⊤
-EachFits (i ∷ instructions) = Fits i × EachFits instructions
+copies_fit : (n : ℕ) (xs : List Instruction) → All Fits xs → All Fits (copies n xs)
+copies_fit zero xs h = All-nil Fits
+copies_fit (suc n) xs h = All-append Fits xs (copies n xs) h (copies_fit n xs h)
 
-both_fit : (xs ys : List Instruction) → EachFits xs → EachFits ys → EachFits (xs ++ ys)
-unfolding EachFits
-both_fit [] ys h k = k
-both_fit (i ∷ xs) ys h k = (h.0, both_fit xs ys h.1 k)
-
-copies_fit : (n : ℕ) (xs : List Instruction) → EachFits xs → EachFits (copies n xs)
-unfolding EachFits
-copies_fit zero xs h = tt
-copies_fit (suc n) xs h = both_fit xs (copies n xs) h (copies_fit n xs h)
-
-reached_fit : (tree : Tree) → AllFit tree → EachFits (reached tree)
-unfolding EachFits
-reached_fit Nothing h = tt
-reached_fit (Then i rest) h = (h.0, reached_fit rest h.1)
+reached_fit : (tree : Tree) → AllFit tree → All Fits (reached tree)
+reached_fit Nothing h = All-nil Fits
+reached_fit (Then i rest) h = All-cons Fits i (reached rest) h.0 (reached_fit rest h.1)
 reached_fit (Block line turns body rest) h =
-    both_fit (copies turns (reached body)) (reached rest) (copies_fit turns (reached body) (reached_fit body h.1)) (reached_fit rest h.2)
+    All-append Fits (copies turns (reached body)) (reached rest) (copies_fit turns (reached body) (reached_fit body h.1)) (reached_fit rest h.2)
 
 -- ---- lines where they are reached
 
@@ -72,10 +61,6 @@ length-moved : (offset stated : List ℤ) → length (moved offset stated) ≡ l
 length-moved offset [] = refl
 length-moved [] (c ∷ stated) = refl
 length-moved (o ∷ offset) (c ∷ stated) = ap suc (length-moved offset stated)
-
-length-values : (arguments : List (List ℕ)) → length (map whole_value arguments) ≡ length arguments
-length-values [] = refl
-length-values (a ∷ arguments) = ap suc (length-values arguments)
 
 first_holds : (a b : Bool) → not (a && b) ≡ false → a ≡ true
 first_holds true b h = refl
@@ -90,7 +75,7 @@ few_said : (number : ℕ) (arguments : List (List ℕ)) (targets : List Target) 
 unfolding has_wrong_arguments
 few_said number arguments targets offset fits =
     let few = ltb-false 16 (length arguments) (or_parts (nat_lt 16 (length arguments)) _ fits.arguments).0 in
-    omega (arith, few, length-moved offset (map whole_value arguments), length-values arguments)
+    omega (arith, few, length-moved offset (map whole_value arguments), length-map arguments whole_value)
 
 said : (s : Shift) (number : ℕ) (o : Operation) (arguments : List (List ℕ)) (targets : List Target) → Fits (instruction number o arguments targets) → IsSaid (placed_at s (instruction number o arguments targets))
 said s number PauliError arguments targets fits = record { accepted = λ error. error_accepted number arguments targets fits; few = omega arith }
@@ -99,54 +84,12 @@ said s number DetectorDeclaration arguments targets fits =
 said s number ObservableInclude arguments targets fits = record { accepted = λ error. absurd (false≢true error); few = omega arith }
 said s number Shifts arguments targets fits = record { accepted = λ error. absurd (false≢true error); few = omega arith }
 
--- lines that are said, none of which names a number beyond its limit
-AreKept : List Placed → Type 0
-AreKept [] = ⊤
-AreKept (p ∷ lines) = IsSaid p × (is_beyond p ≡ false) × AreKept lines
-
-none_found : (lines : List Placed) (p : Placed) → find is_beyond (p ∷ lines) ≡ None → (is_beyond p ≡ false) × (find is_beyond lines ≡ None)
-none_found lines p h = by (is_beyond p) refl h
-  where
-    by : (b : Bool) → is_beyond p ≡ b → cond b (Some p) (find is_beyond lines) ≡ None → (is_beyond p ≡ false) × (find is_beyond lines ≡ None)
-    by true e k = absurd cc
-    by false e k = (e, k)
-
-lines_kept : (s : Shift) (instructions : List Instruction) → EachFits instructions → find is_beyond (placed_from s instructions) ≡ None → AreKept (placed_from s instructions)
-unfolding EachFits AreKept placed_from
-lines_kept s [] h k = tt
-lines_kept s (i ∷ instructions) h k =
-    let parts = none_found (placed_from (shift_after i s) instructions) (placed_at s i) k in
-    (said s i.line i.operation i.arguments i.targets h.0, parts.0, lines_kept (shift_after i s) instructions h.1 parts.1)
-
--- ---- counts
-
--- where no target counts more than so many, none of the lines does
-targets_within : (count : Target → ℕ) (n : ℕ) → ((t : Target) → is_target_beyond t ≡ false → count t ≤ n)
-    → (targets : List Target) → list_any is_target_beyond targets ≡ false → greatest_by count targets ≤ n
-targets_within count n each [] h = omega arith
-targets_within count n each (t ∷ targets) h =
-    let parts = or_parts (is_target_beyond t) (list_any is_target_beyond targets) h in
-    omega (arith, each t parts.0, targets_within count n each targets parts.1)
-
-lines_within : (count : Target → ℕ) (n : ℕ) → ((t : Target) → is_target_beyond t ≡ false → count t ≤ n)
-    → (lines : List Placed) → AreKept lines → greatest_over count lines ≤ n
-unfolding AreKept has_target_beyond
-lines_within count n each [] h = omega arith
-lines_within count n each (p ∷ lines) h =
-    let near = (or_parts (has_target_beyond p.targets) (list_any is_coordinate_beyond p.coordinates) h.1).0 in
-    omega (arith, targets_within count n each p.targets near, lines_within count n each lines h.2)
-
-detector_within : (t : Target) → is_target_beyond t ≡ false → detectors_to t ≤ 1000000
-detector_within (Plain n) h = omega arith
-detector_within (Detector d) h = omega (arith, ltb-false 999999 d h)
-detector_within (Observable k) h = omega arith
-detector_within Separator h = omega arith
-
-observable_within : (t : Target) → is_target_beyond t ≡ false → observables_to t ≤ 1024
-observable_within (Plain n) h = omega arith
-observable_within (Detector d) h = omega arith
-observable_within (Observable k) h = omega (arith, ltb-false 1023 k h)
-observable_within Separator h = omega arith
+lines_said : (s : Shift) (instructions : List Instruction) → All Fits instructions → All IsSaid (placed_from s instructions)
+unfolding placed_from
+lines_said s [] h = All-nil IsSaid
+lines_said s (i ∷ instructions) h =
+    All-cons IsSaid (placed_at s i) (placed_from (shift_after i s) instructions) (said s i.line i.operation i.arguments i.targets (All-head Fits i instructions h))
+    (lines_said (shift_after i s) instructions (All-tail Fits i instructions h))
 
 -- ---- error lines
 
@@ -158,18 +101,11 @@ line_kept detectors observables p accepted =
       in_range = All-filter _ (λ t. t < detectors + observables) (range_with_len 0 (detectors + observables)) (all-below (detectors + observables));
     }
 
-lines_writable : (detectors observables : ℕ) (lines : List Placed) → AreKept lines → All (IsWritableLine (detectors + observables)) (error_lines detectors observables lines)
-unfolding AreKept
-lines_writable detectors observables [] h = All-nil (IsWritableLine (detectors + observables))
-lines_writable detectors observables (p ∷ lines) h =
-    by (is_error p.operation) refl (lines_writable detectors observables lines h.2)
-  where
-    by : (b : Bool) → is_error p.operation ≡ b → All (IsWritableLine (detectors + observables)) (error_lines detectors observables lines)
-        → All (IsWritableLine (detectors + observables)) (map (error_line detectors observables) (cond b (p ∷ filter (λ q. is_error q.operation) lines) (filter (λ q. is_error q.operation) lines)))
-    by true e rest =
-        All-cons (IsWritableLine (detectors + observables)) (error_line detectors observables p) (error_lines detectors observables lines)
-        (line_kept detectors observables p (h.0.accepted e)) rest
-    by false e rest = rest
+lines_writable : (detectors observables : ℕ) (lines : List Placed) → All IsSaid lines → All (IsWritableLine (detectors + observables)) (error_lines detectors observables lines)
+lines_writable detectors observables lines h =
+    let test : Placed → Bool = λ p. is_error p.operation in
+    All-map (IsWritableLine (detectors + observables)) (error_line detectors observables) (filter test lines)
+    (λ k e below. line_kept detectors observables (slice_index_or (filter test lines) k e) ((All-filter test IsSaid lines h k e below).accepted (filter_passes test lines k e below)))
 
 -- ---- coordinates
 
@@ -187,29 +123,26 @@ coordinates_kept : (p : Placed) → IsSaid p → is_beyond p ≡ false → Coord
 coordinates_kept p h near =
     record { few = h.few; within = none_far p.coordinates (or_parts (has_target_beyond p.targets) (list_any is_coordinate_beyond p.coordinates) near).1 }
 
-last_kept : (d : ℕ) (found : List ℤ) (lines : List Placed) → CoordinatesFit found → AreKept lines → CoordinatesFit (last_coordinates d found lines)
-unfolding AreKept last_coordinates
-last_kept d found [] fit h = fit
-last_kept d found (p ∷ lines) fit h = last_kept d (if gives_coordinates d p then p.coordinates else found) lines (by (gives_coordinates d p)) h.2
+last_kept : (d : ℕ) (found : List ℤ) (lines : List Placed) → CoordinatesFit found → All IsSaid lines → first_beyond lines ≡ None → CoordinatesFit (last_coordinates d found lines)
+unfolding last_coordinates
+last_kept d found [] fit h near = fit
+last_kept d found (p ∷ lines) fit h near =
+    last_kept d (if gives_coordinates d p then p.coordinates else found) lines (by (gives_coordinates d p)) (All-tail IsSaid p lines h) (near-first p lines near).1
   where
     by : (b : Bool) → CoordinatesFit (if b then p.coordinates else found)
-    by true = coordinates_kept p h.0 h.1
+    by true = coordinates_kept p (All-head IsSaid p lines h) (near-first p lines near).0
     by false = fit
-
-each_fits : (f : ℕ → List ℤ) (k n : ℕ) → ((d : ℕ) → CoordinatesFit (f d)) → All CoordinatesFit (map f (range_with_len k n))
-each_fits f k zero h = All-nil CoordinatesFit
-each_fits f k (suc n) h = All-cons CoordinatesFit (f k) (map f (range_with_len (k + 1) n)) (h k) (each_fits f (k + 1) n h)
 
 -- ---- the model
 
-meaning_writable : (lines : List Placed) → AreKept lines → IsWritable (meaning_of lines)
-meaning_writable lines h =
+meaning_writable : (lines : List Placed) → All IsSaid lines → first_beyond lines ≡ None → IsWritable (meaning_of lines)
+meaning_writable lines h near =
     record {
       lines = lines_writable (detector_count lines) (observable_count lines) lines h;
       coordinates_given = length-map-range_with_len (λ d. last_coordinates d [] lines) 0 (detector_count lines);
-      coordinates_fit = each_fits (λ d. last_coordinates d [] lines) 0 (detector_count lines) (λ d. last_kept d [] lines no_coordinates h);
-      few_detectors = lines_within detectors_to 1000000 detector_within lines h;
-      few_observables = lines_within observables_to 1024 observable_within lines h;
+      coordinates_fit = All-map CoordinatesFit (λ d. last_coordinates d [] lines) (range_with_len 0 (detector_count lines)) (λ k e below. last_kept _ [] lines no_coordinates h near);
+      few_detectors = (few-counts lines near).0;
+      few_observables = (few-counts lines near).1;
     }
 
 not_refused : (refusal : Option Fault) (meaning model : ErrorModel) → unless refusal meaning ≡ Ok model → (refusal ≡ None) × (meaning ≡ model)
@@ -227,8 +160,8 @@ none_second false x o h = h
 tree_writable : (tree : Tree) (model : ErrorModel) → AllFit tree → model_of_tree tree ≡ Ok model → IsWritable model
 tree_writable tree model fit h =
     let parts = not_refused (refusal_of_tree tree) (meaning_of (placed_lines tree)) model h in
-    let near = none_mapped _ (find is_beyond (placed_lines tree)) (none_mapped _ (first_beyond (placed_lines tree)) (none_second (has_many_lines tree) _ _ parts.0)) in
-    subst IsWritable parts.1 (meaning_writable (placed_lines tree) (lines_kept no_shift (reached tree) (reached_fit tree fit) near))
+    let near = none_mapped _ (first_beyond (placed_lines tree)) (none_second (has_many_lines tree) _ _ parts.0) in
+    subst IsWritable parts.1 (meaning_writable (placed_lines tree) (lines_said no_shift (reached tree) (reached_fit tree fit)) near)
 
 of_items : (text : List ℕ) (model : ErrorModel) (r : Result (List Item) Fault) → items_in text ≡ r → (r >>= (λ items. model_of_tree (tree_of items))) ≡ Ok model → IsWritable model
 of_items text model (Ok items) e h = tree_writable (tree_of items) model (items_are_written text items e).fits.fit h

@@ -20,7 +20,7 @@ use Rattle.dem_text.specs.Fitting.{Fits}
 use Rattle.dem_text.specs.Instructions.{argument_form}
 use Rattle.dem_text.specs.Limits.{has_target_beyond, is_target_beyond}
 use Rattle.dem_text.specs.Verdicts.{Instruction, number_in}
-use Rattle.dem_text.specs.declared.counts.Extent.{Extent}
+use Rattle.dem_text.specs.declared.brief.Extent.{Extent}
 use Rattle.dem_text.specs.private.Offsets.{AreSmall, HasRoom, beyond_stated, number_at}
 use Rattle.dem_text.specs.Shifts.{Shift, shift_after, shifted_by}
 use Rattle.stim_parser.specs.Offsets.{shifted, moved}
@@ -114,10 +114,13 @@ number-few (Detector d ∷ ts) h = omega arith
 number-few (Observable k ∷ ts) h = omega arith
 number-few (Separator ∷ ts) h = omega arith
 
--- room for some lines is room for one
-pub room-one : (s : Shift) (n : ℕ) → HasRoom s n → 1 ≤ n → HasRoom s 1
-room-one s n room h =
+-- room for some lines is room for fewer
+room-less : (s : Shift) (m n : ℕ) → HasRoom s m → n ≤ m → HasRoom s n
+room-less s m n room h =
     record { detectors = omega (arith, room.detectors, h); offset = λ k d below. let one = room.offset k d below in omega (arith, one, h) }
+
+pub room-one : (s : Shift) (n : ℕ) → HasRoom s n → 1 ≤ n → HasRoom s 1
+room-one s n = room-less s n 1
 
 -- at a place of an offset, or past its end
 pub room-at : (offset : List ℤ) (k : ℕ) → All (λ o. nat_abs o + beyond_stated < 2 ^ 127) offset → nat_abs (number_at offset k) + beyond_stated < 2 ^ 127
@@ -153,11 +156,8 @@ room-both (o ∷ offset) (m ∷ more) n x few room small =
 pub room-next : (i : Instruction) (e : Extent) (ns : List ℤ) (s : Shift) (n : ℕ) → IsKnown i e ns → HasRoom s (suc n) → HasRoom (shift_after i s) n
 room-next i e ns s n known room = after i.operation i.arguments i.targets (number-few i.targets known.within) (subst AreSmall known.numbers_are known.small)
   where
-    more : (n m : ℕ) → n ≤ m → (x : ℕ) → x + beyond_stated * m < 2 ^ 127 → x + beyond_stated * n < 2 ^ 127
-    more n m h x below = omega (arith, h, below)
-
     stays : HasRoom s n
-    stays = record { detectors = more n (suc n) (omega arith) s.detectors room.detectors; offset = λ k d below. more n (suc n) (omega arith) (nat_abs (get_or s.offset k d)) (room.offset k d below) }
+    stays = room-less s (suc n) n room (omega arith)
 
     after : (operation : Operation) (arguments : List (List ℕ)) (ts : List Target) → number_in ts < beyond_stated → AreSmall (numbers_stated operation arguments) → HasRoom (shifted_by operation arguments ts s) n
     after PauliError arguments ts few small = stays

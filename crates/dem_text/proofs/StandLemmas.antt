@@ -1,8 +1,10 @@
 -- The instructions of a model that can be written fit what their names take.
-use Rattle.std.proofs.Common.{◌≡◌, ℕ, zero, suc, ◌+◌, ◌-◌, ◌≤◌, ◌<◌, nat_lt, true, false, ℤ, nat_abs, List, [], ◌∷◌, ◌++◌, map, length, refl, ap, ◌∙◌, inl, inr, arith, All}
+use Rattle.std.proofs.Common.{◌≡◌, ℕ, suc, ◌+◌, ◌-◌, ◌≤◌, ◌<◌, nat_lt, true, false, ℤ, nat_abs, List, [], ◌∷◌, ◌++◌, map, length, refl, ap, ◌∙◌, inl, inr, arith, All}
 use Rattle.std.specs.Prelude.{slice_index_or}
 use Rattle.std.specs.Fmt.{signed_decimal}
 use Rattle.std.specs.List.{list_any, list_all, range_with_len}
+use Rattle.std.proofs.lemmas.List.{length-map}
+use Rattle.std.proofs.lemmas.List.Elements.{All-append, All-map, All-weaker}
 use Rattle.std.proofs.lemmas.Bool.{and_from, cases_Bool, false≢true, le-ltb, ltb-false, ltb-true, or_from}
 use Rattle.step_model.specs.ErrorModels.{ErrorLine, ErrorModel}
 use Rattle.step_model.specs.WellFormed.{CoordinatesFit}
@@ -11,13 +13,13 @@ use Rattle.stim_parser.specs.Limits.{has_wrong_arguments, has_wrong_probability}
 use Rattle.stim_parser.specs.Numbers.{is_number_beyond, magnitude_of}
 use Rattle.stim_parser.specs.Coordinates.{is_whole_number}
 use Rattle.dem_text.specs.Limits.{are_of_form, has_target_beyond, is_effect, is_target_beyond}
-use Rattle.dem_text.specs.Verdicts.{Instruction}
 use Rattle.dem_text.specs.Writable.{IsWritable, IsWritableLine}
 use Rattle.stim_parser.proofs.AcceptedLemmas.{accepted_is_word}
 use Rattle.stim_parser.proofs.ArgumentTexts.{AreWords}
 use Rattle.dem_text.proofs.ModelInstructions.{detector_instruction, detector_instructions, error_instruction, error_instructions, instructions_of, observable_instruction, observable_instructions, target_of_number}
 use Rattle.stim_parser.proofs.NumberLemmas.{signed_decimal_is_whole}
-use Rattle.dem_text.proofs.TextReadLemmas.{AllCanStand, CanStand}
+use Rattle.dem_text.proofs.FlipLemmas.{all-below}
+use Rattle.dem_text.proofs.TextReadLemmas.{CanStand}
 use Rattle.stim_parser.proofs.WordLemmas.{is_word}
 
 -- ---- error lines
@@ -69,13 +71,6 @@ error_stands detectors observables line few_detectors few_observables h =
       stays = refl;
     }
 
-errors_stand : (detectors observables : ℕ) (lines : List ErrorLine) → detectors ≤ 1000000 → observables ≤ 1024 → All (IsWritableLine (detectors + observables)) lines → AllCanStand (map (error_instruction detectors) lines)
-errors_stand detectors observables [] few_detectors few_observables h = tt
-errors_stand detectors observables (line ∷ lines) few_detectors few_observables h = (
-  error_stands detectors observables line few_detectors few_observables (h 0 line (omega arith)),
-  errors_stand detectors observables lines few_detectors few_observables (λ k d below. h (suc k) d (omega (arith, below))),
-)
-
 -- ---- detectors
 
 coordinate_words : (coordinates : List ℤ) → All (λ c. nat_abs c < 1_000_000_000_000_000_000) coordinates → AreWords (map signed_decimal coordinates)
@@ -97,12 +92,8 @@ all_near (c ∷ coordinates) h =
     (ap is_number_beyond (signed_decimal_is_whole c near).magnitude ∙ le-ltb 999_999_999_999_999_999 (nat_abs c) (omega (arith, near)))
     (all_near coordinates (λ k d below. h (suc k) d (omega (arith, below))))
 
-length-texts : (coordinates : List ℤ) → length (map signed_decimal coordinates) ≡ length coordinates
-length-texts [] = refl
-length-texts (c ∷ coordinates) = ap suc (length-texts coordinates)
-
 few_texts : (coordinates : List ℤ) → length coordinates ≤ 16 → nat_lt 16 (length (map signed_decimal coordinates)) ≡ false
-few_texts coordinates h = ap (λ n. nat_lt 16 n) (length-texts coordinates) ∙ le-ltb 16 (length coordinates) h
+few_texts coordinates h = ap (λ n. nat_lt 16 n) (length-map coordinates signed_decimal) ∙ le-ltb 16 (length coordinates) h
 
 detector_stands : (coordinates : List (List ℤ)) (d : ℕ) → d < 1000000 → CoordinatesFit (slice_index_or coordinates d []) → CanStand (detector_instruction coordinates d)
 unfolding has_wrong_arguments has_wrong_probability are_of_form has_target_beyond
@@ -122,13 +113,6 @@ detector_stands coordinates d h fit =
       stays = refl;
     }
 
-detectors_stand : (coordinates : List (List ℤ)) (k n : ℕ) → k + n ≤ 1000000 → k + n ≤ length coordinates → All CoordinatesFit coordinates → AllCanStand (map (detector_instruction coordinates) (range_with_len k n))
-detectors_stand coordinates k zero few given fit = tt
-detectors_stand coordinates k (suc n) few given fit = (
-  detector_stands coordinates k (omega (arith, few)) (fit k [] (omega (arith, given))),
-  detectors_stand coordinates (k + 1) n (omega (arith, few)) (omega (arith, given)) fit,
-)
-
 -- ---- observables
 
 observable_stands : (k : ℕ) → k < 1024 → CanStand (observable_instruction k)
@@ -147,22 +131,23 @@ observable_stands k h =
       stays = refl;
     }
 
-observables_stand : (k n : ℕ) → k + n ≤ 1024 → AllCanStand (map observable_instruction (range_with_len k n))
-observables_stand k zero few = tt
-observables_stand k (suc n) few = (observable_stands k (omega (arith, few)), observables_stand (k + 1) n (omega (arith, few)))
-
 -- ---- all
 
-both_stand : (xs ys : List Instruction) → AllCanStand xs → AllCanStand ys → AllCanStand (xs ++ ys)
-both_stand [] ys h k = k
-both_stand (i ∷ xs) ys h k = (h.0, both_stand xs ys h.1 k)
-
-pub instructions_stand : (model : ErrorModel) → IsWritable model → AllCanStand (instructions_of model)
+pub instructions_stand : (model : ErrorModel) → IsWritable model → All CanStand (instructions_of model)
 instructions_stand model h =
-    both_stand (error_instructions model) (detector_instructions model ++ observable_instructions model)
-    (errors_stand model.detectors model.observables model.lines h.few_detectors h.few_observables h.lines)
-    (both_stand (detector_instructions model) (observable_instructions model)
-    (let few = h.few_detectors in
     let given = h.coordinates_given in
-    detectors_stand model.coordinates 0 model.detectors (omega (arith, few)) (omega (arith, given)) h.coordinates_fit)
-    (let few = h.few_observables in observables_stand 0 model.observables (omega (arith, few))))
+    let few_detectors = h.few_detectors in
+    let few_observables = h.few_observables in
+    All-append CanStand (error_instructions model) (detector_instructions model ++ observable_instructions model)
+    (All-map CanStand (error_instruction model.detectors) model.lines
+    (All-weaker (IsWritableLine (model.detectors + model.observables)) (λ line. CanStand (error_instruction model.detectors line))
+    (λ line fits. error_stands model.detectors model.observables line few_detectors few_observables fits)
+    model.lines h.lines))
+    (All-append CanStand (detector_instructions model) (observable_instructions model)
+    (All-map CanStand (detector_instruction model.coordinates) (range_with_len 0 model.detectors)
+    (All-weaker (λ d. d < model.detectors) (λ d. CanStand (detector_instruction model.coordinates d))
+    (λ d below. detector_stands model.coordinates d (omega (arith, below, few_detectors)) (h.coordinates_fit d [] (omega (arith, below, given))))
+    (range_with_len 0 model.detectors) (all-below model.detectors)))
+    (All-map CanStand observable_instruction (range_with_len 0 model.observables)
+    (All-weaker (λ k. k < model.observables) (λ k. CanStand (observable_instruction k)) (λ k below. observable_stands k (omega (arith, below, few_observables)))
+    (range_with_len 0 model.observables) (all-below model.observables))))

@@ -1,14 +1,16 @@
 -- Truth values turned round by the lines named are the exclusive sum of these.
-use Rattle.std.proofs.Common.{◌≡◌, ◌≢◌, ℕ, zero, suc, ◌+◌, ◌==◌, ◌<◌, ◌≤◌, Bool, true, false, not, ◌&&◌, List, [], ◌∷◌, length, map, get_or, set, drop, replicate, refl, ap, ap₂, sym, ◌∙◌, ◌⊎◌, inl, inr, arith}
+use Rattle.std.proofs.Common.{◌≡◌, ℕ, zero, suc, ◌+◌, ◌==◌, ◌<◌, ◌≤◌, Bool, true, false, not, ◌&&◌, List, [], ◌∷◌, length, map, get_or, set, drop, replicate, refl, ap, sym, ◌∙◌, ◌⊎◌, inl, inr, arith}
 use Rattle.std.specs.Prelude.{if◌then◌else◌, min}
 use Rattle.std.specs.List.{range_with_len}
 use Rattle.std.proofs.lemmas.Bool.{cases_lt, eq-eqb, ne_eqb}
 use Rattle.std.proofs.lemmas.List.{drop_all}
+use Rattle.std.proofs.lemmas.List.FromFn.{get_or-map-range_with_len, length-map-range_with_len}
 use Rattle.pauli_word.specs.Parity.{exclusive_or}
 use Rattle.pauli_word.proofs.Parities.{exclusive_or-false, exclusive_or_assoc, exclusive_or_left_comm}
 use Rattle.step_model.specs.ErrorModels.{ErrorLine, ErrorModel}
 use Rattle.dem_text.specs.Sums.{is_in_symptom, symptom_of}
 use Rattle.step_model.specs.Targets.{is_listed}
+use Rattle.step_model.proofs.MemberLemmas.{map_agree, map_range_below, set-map-range}
 use Rattle.dem_text.specs.private.Turned.{turned, turned_at, turned_by}
 
 -- ---- one truth value
@@ -38,39 +40,32 @@ length-turned_if false bits targets = refl
 
 -- ---- all of them
 
-map-same : (f g : ℕ → Bool) (a n : ℕ) → ((t : ℕ) → a ≤ t → f t ≡ g t) → map f (range_with_len a n) ≡ map g (range_with_len a n)
-map-same f g a zero h = refl
-map-same f g a (suc n) h =
-    ap₂ (λ (x : Bool) (xs : List Bool). x ∷ xs) (h a (omega arith)) (map-same f g (a + 1) n (λ t below. h t (omega (arith, below))))
+turned_at-map : (f : ℕ → Bool) (n u : ℕ) → turned_at (map f (range_with_len 0 n)) u ≡ map (λ t. exclusive_or (u == t) (f t)) (range_with_len 0 n)
+turned_at-map f n u =
+    let long = length-map-range_with_len f 0 n in
+    elim (cases_lt u n) [
+      | inl below ↦
+          sym (turned_at-set (map f (range_with_len 0 n)) u false (omega (arith, below, long)))
+          ∙ set-map-range f (λ t. exclusive_or (u == t) (f t)) n u _ below
+          (ap not (get_or-map-range_with_len f 0 n u u false below (omega arith)) ∙ sym (ap (λ b. exclusive_or b (f u)) (eq-eqb u u refl)))
+          (λ r other. sym (ap (λ b. exclusive_or b (f r)) (ne_eqb u r (λ e. other (sym e)))))
+      | inr past ↦
+          sym (turned_at-past (map f (range_with_len 0 n)) u (omega (arith, past, long)))
+          ∙ map_range_below f (λ t. exclusive_or (u == t) (f t)) 0 n
+          (λ r below. sym (ap (λ b. exclusive_or b (f r)) (ne_eqb u r (λ e. absurd (omega (arith, e, below, past))))))
+    ]
 
-other : (f : ℕ → Bool) (t u : ℕ) → t ≢ u → f t ≡ exclusive_or (u == t) (f t)
-other f t u h = rw (ne_eqb u t (λ e. h (sym e))) refl
-
-same : (f : ℕ → Bool) (t u : ℕ) → t ≡ u → not (f t) ≡ exclusive_or (u == t) (f t)
-same f t u h = rw (eq-eqb u t (sym h)) refl
-
-turned_at-map : (f : ℕ → Bool) (a n u : ℕ) → turned_at (map f (range_with_len a n)) u ≡ map (λ t. exclusive_or (a + u == t) (f t)) (range_with_len a n)
-turned_at-map f a zero u = refl
-turned_at-map f a (suc n) zero =
-    ap₂ (λ (x : Bool) (xs : List Bool). x ∷ xs) (same f a (a + 0) (omega arith))
-    (map-same f (λ t. exclusive_or (a + 0 == t) (f t)) (a + 1) n (λ t above. other f t (a + 0) (λ e. absurd (omega (arith, e, above)))))
-turned_at-map f a (suc n) (suc u) =
-    let at : a + 1 + u ≡ a + suc u = omega arith in
-    ap₂ (λ (x : Bool) (xs : List Bool). x ∷ xs) (other f a (a + suc u) (λ e. absurd (omega (arith, e))))
-    (turned_at-map f (a + 1) n u ∙ ap (λ m. map (λ t. exclusive_or (m == t) (f t)) (range_with_len (a + 1) n)) at)
-
-swapped : (a b c : Bool) → exclusive_or a (exclusive_or b c) ≡ exclusive_or (exclusive_or b a) c
+pub swapped : (a b c : Bool) → exclusive_or a (exclusive_or b c) ≡ exclusive_or (exclusive_or b a) c
 swapped a b c = exclusive_or_left_comm a b c ∙ sym (exclusive_or_assoc b a c)
 
 pub turned-map : (f : ℕ → Bool) (n : ℕ) (targets : List ℕ) → turned (map f (range_with_len 0 n)) targets ≡ map (λ t. exclusive_or (is_listed targets t) (f t)) (range_with_len 0 n)
 turned-map f n [] = refl
 turned-map f n (u ∷ targets) =
-    let at : 0 + u ≡ u = omega arith in
-    ap (λ bits. turned bits targets) (turned_at-map f 0 n u ∙ ap (λ m. map (λ t. exclusive_or (m == t) (f t)) (range_with_len 0 n)) at)
+    ap (λ bits. turned bits targets) (turned_at-map f n u)
     ∙ turned-map (λ t. exclusive_or (u == t) (f t)) n targets
-    ∙ map-same _ _ 0 n (λ t above. swapped (is_listed targets t) (u == t) (f t))
+    ∙ map_agree _ _ (λ t. swapped (is_listed targets t) (u == t) (f t)) (range_with_len 0 n)
 
-named-map : (f : ℕ → Bool) (n : ℕ) (named : Bool) (targets : List ℕ) → (if named then turned (map f (range_with_len 0 n)) targets else map f (range_with_len 0 n))
+pub named-map : (f : ℕ → Bool) (n : ℕ) (named : Bool) (targets : List ℕ) → (if named then turned (map f (range_with_len 0 n)) targets else map f (range_with_len 0 n))
     ≡ map (λ t. exclusive_or (named && is_listed targets t) (f t)) (range_with_len 0 n)
 named-map f n true targets = turned-map f n targets
 named-map f n false targets = refl
@@ -82,9 +77,9 @@ turned_by-map f n (b ∷ named) [] = refl
 turned_by-map f n (b ∷ named) (line ∷ lines) =
     ap (λ bits. turned_by bits named lines) (named-map f n b line.targets)
     ∙ turned_by-map (λ t. exclusive_or (b && is_listed line.targets t) (f t)) n named lines
-    ∙ map-same _ _ 0 n (λ t above. swapped (is_in_symptom named lines t) (b && is_listed line.targets t) (f t))
+    ∙ map_agree _ _ (λ t. swapped (is_in_symptom named lines t) (b && is_listed line.targets t) (f t)) (range_with_len 0 n)
 
-none-set : (a n : ℕ) → replicate n false ≡ map (λ t. false) (range_with_len a n)
+pub none-set : (a n : ℕ) → replicate n false ≡ map (λ t. false) (range_with_len a n)
 none-set a zero = refl
 none-set a (suc n) = ap (λ (bs : List Bool). false ∷ bs) (none-set (a + 1) n)
 
@@ -93,16 +88,9 @@ symptom-turned model named =
     let count = model.detectors + model.observables in
     ap (λ bits. turned_by bits named model.lines) (none-set 0 count)
     ∙ turned_by-map (λ t. false) count named model.lines
-    ∙ map-same _ _ 0 count (λ t above. exclusive_or-false (is_in_symptom named model.lines t))
+    ∙ map_agree _ _ (λ t. exclusive_or-false (is_in_symptom named model.lines t)) (range_with_len 0 count)
 
 -- ---- lines one after another
-
-pub turned_by-more : (bits named : List Bool) (lines : List ErrorLine) (k : ℕ) (b : Bool) (line : ErrorLine) → k < length named → k < length lines
-    → turned_by bits (drop k named) (drop k lines) ≡ turned_by (if get_or named k b then turned bits (get_or lines k line).targets else bits) (drop (suc k) named) (drop (suc k) lines)
-turned_by-more bits [] lines k b line h j = absurd (omega (arith, h))
-turned_by-more bits (n ∷ named) [] k b line h j = absurd (omega (arith, j))
-turned_by-more bits (n ∷ named) (l ∷ lines) zero b line h j = refl
-turned_by-more bits (n ∷ named) (l ∷ lines) (suc k) b line h j = turned_by-more bits named lines k b line (omega (arith, h)) (omega (arith, j))
 
 pub turned_by-done : (bits named : List Bool) (lines : List ErrorLine) (k : ℕ) → length named ≤ k ⊎ length lines ≤ k → turned_by bits (drop k named) (drop k lines) ≡ bits
 turned_by-done bits named lines k (inl h) = rw (drop_all k named h) refl

@@ -16,7 +16,7 @@ use Rattle.dem_text.specs.declared.target.Target.TheVariants.{Plain, Detector, O
 use Rattle.dem_text.specs.Fitting.{Fits}
 use Rattle.dem_text.specs.Limits.{has_target_beyond, is_target_beyond}
 use Rattle.dem_text.specs.Verdicts.{Instruction}
-use Rattle.dem_text.specs.declared.counts.Extent.{Extent}
+use Rattle.dem_text.specs.declared.brief.Extent.{Extent}
 use Rattle.dem_text.specs.Meanings.{detectors_to, observables_to}
 use Rattle.stim_lexer.specs.Reached.{greatest_by}
 use Rattle.dem_text.specs.Shifts.{Shift, placed_at, shifted_target}

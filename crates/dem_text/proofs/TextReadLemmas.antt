@@ -1,7 +1,8 @@
 -- A text of instructions, one a line, in no block and with no shift among them, means what these instructions say.
 use Rattle.std.proofs.Common.{◌≡◌, ℕ, ◌+◌, Bool, true, false, cond, if◌then◌else◌, max, ℤ, List, [], ◌∷◌, ◌++◌, map, Ok, refl, ap, ◌∙◌}
 use Rattle.std.proofs.Math.Path.{fun_ext}
-use Rattle.std.specs.Prelude.{⊤}
+use Rattle.std.specs.Prelude.{All}
+use Rattle.std.proofs.lemmas.List.Elements.{All-head, All-tail}
 use Rattle.std.specs.List.{filter, range_with_len}
 use Rattle.stim_lexer.specs.Lines.{lines_of}
 use Rattle.stim_lexer.specs.Texts.{before, items_from}
@@ -11,7 +12,6 @@ use Rattle.dem_text.specs.Texts.{models}
 use Rattle.stim_lexer.specs.Trees.{InstructionLine}
 use Rattle.dem_text.specs.Verdicts.{Instruction}
 use Rattle.dem_text.specs.Meanings.{detectors_to, observables_to, detector_count, error_line, error_lines, gives_coordinates, is_error, last_coordinates, meaning_of, observable_count}
-use Rattle.dem_text.specs.private.Summed.{greatest_over}
 use Rattle.stim_lexer.specs.Reached.{greatest_by}
 use Rattle.dem_text.specs.Models.{model_in}
 use Rattle.dem_text.specs.Shifts.{Placed, no_shift, shift_after}
@@ -30,16 +30,12 @@ pub record CanStand (i : Instruction) : Type 0 where
   pub fits : Fits i
   pub stays : shift_after i no_shift ≡ no_shift
 
-abbrev pub AllCanStand : List Instruction → Type 0
-AllCanStand [] = ⊤
-AllCanStand (i ∷ instructions) = CanStand i × AllCanStand instructions
-
 -- their text
 abbrev pub text_of : List Instruction → List ℕ
 text_of [] = []
 text_of (i ∷ instructions) = instruction_line i.operation i.arguments i.targets ++ 10 ∷ text_of instructions
 
-abbrev pub at_line : ℕ → Instruction → Instruction
+abbrev at_line : ℕ → Instruction → Instruction
 at_line number i = instruction number i.operation i.arguments i.targets
 
 -- they with the numbers of their lines, of which so many came before
@@ -57,9 +53,9 @@ fits_at number i fits =
       targets_within = fits.targets_within;
     }
 
-numbered_stay : (read : ℕ) (instructions : List Instruction) → AllCanStand instructions → AllStay (numbered read instructions)
+numbered_stay : (read : ℕ) (instructions : List Instruction) → All CanStand instructions → AllStay (numbered read instructions)
 numbered_stay read [] h = tt
-numbered_stay read (i ∷ instructions) h = (h.0.stays, numbered_stay (read + 1) instructions h.1)
+numbered_stay read (i ∷ instructions) h = ((All-head CanStand i instructions h).stays, numbered_stay (read + 1) instructions (All-tail CanStand i instructions h))
 
 -- ---- their items
 
@@ -77,15 +73,20 @@ no_items : (read : ℕ) → items_from models [] read (lines_of []) ≡ Ok []
 unfolding items_from lines_of
 no_items read = refl
 
-items_read : (read : ℕ) (instructions : List Instruction) → AllCanStand instructions → items_from models [] read (lines_of (text_of instructions)) ≡ Ok (map InstructionLine (numbered read instructions))
+items_read : (read : ℕ) (instructions : List Instruction) → All CanStand instructions → items_from models [] read (lines_of (text_of instructions)) ≡ Ok (map InstructionLine (numbered read instructions))
 items_read read [] h = no_items read
 items_read read (i ∷ instructions) h =
-    let cut = line_is_cut i.operation i.arguments i.targets h.0.words (targets_are_words i.targets h.0.fits.targets_within) in
+    let here = All-head CanStand i instructions h in
+    let cut = line_is_cut i.operation i.arguments i.targets here.words (targets_are_words i.targets here.fits.targets_within) in
     ap (items_from models [] read) (lines_of-line (instruction_line i.operation i.arguments i.targets) (text_of instructions) cut.one)
-    ∙ next_item read i (lines_of (text_of instructions)) h.0
-    ∙ ap (before (InstructionLine (at_line (read + 1) i))) (items_read (read + 1) instructions h.1)
+    ∙ next_item read i (lines_of (text_of instructions)) here
+    ∙ ap (before (InstructionLine (at_line (read + 1) i))) (items_read (read + 1) instructions (All-tail CanStand i instructions h))
 
 -- ---- the numbers of lines say nothing
+
+-- the greatest count of the targets of lines, or 0
+abbrev pub greatest_over : (Target → ℕ) → List Placed → ℕ
+greatest_over count lines = greatest_by (λ placed. greatest_by count placed.targets) lines
 
 greatest-numbered : (count : Target → ℕ) (read : ℕ) (instructions : List Instruction) → greatest_over count (map placed (numbered read instructions)) ≡ greatest_over count (map placed instructions)
 greatest-numbered count read [] = refl
@@ -109,22 +110,16 @@ coordinates-numbered d found read (i ∷ instructions) =
 
 meaning-numbered : (read : ℕ) (instructions : List Instruction) → meaning_of (map placed (numbered read instructions)) ≡ meaning_of (map placed instructions)
 meaning-numbered read instructions =
-    let lines : List Placed = map placed (numbered read instructions) in
-    let detectors : detector_count lines ≡ detector_count (map placed instructions) = greatest-numbered detectors_to read instructions in
-    let observables : observable_count lines ≡ observable_count (map placed instructions) = greatest-numbered observables_to read instructions in
-    rw (detectors, observables, errors-numbered (detector_count (map placed instructions)) (observable_count (map placed instructions)) read instructions)
-    (ap
-    (λ coordinates. record {
-      lines = error_lines (detector_count (map placed instructions)) (observable_count (map placed instructions)) (map placed instructions);
-      coordinates = coordinates;
-      detectors = detector_count (map placed instructions);
-      observables = observable_count (map placed instructions);
-    })
-    (ap (λ (f : ℕ → List ℤ). map f (range_with_len 0 (detector_count (map placed instructions)))) (fun_ext (λ d. coordinates-numbered d [] read instructions))))
+    let lines = map placed (numbered read instructions) in
+    let same = map placed instructions in
+    let detectors : detector_count lines ≡ detector_count same = greatest-numbered detectors_to read instructions in
+    let observables : observable_count lines ≡ observable_count same = greatest-numbered observables_to read instructions in
+    let coordinates = ap (λ (f : ℕ → List ℤ). map f (range_with_len 0 (detector_count same))) (fun_ext (λ d. coordinates-numbered d [] read instructions)) in
+    rw (detectors, observables, errors-numbered (detector_count same) (observable_count same) read instructions, coordinates) refl
 
 -- ---- the text
 
-pub text_means : (instructions : List Instruction) → AllCanStand instructions → model_in (text_of instructions) ≡ Ok (meaning_of (map placed instructions))
+pub text_means : (instructions : List Instruction) → All CanStand instructions → model_in (text_of instructions) ≡ Ok (meaning_of (map placed instructions))
 text_means instructions h =
     chain_means (text_of instructions) (numbered 0 instructions) (numbered_stay 0 instructions h) (items_read 0 instructions h)
     ∙ ap Ok (meaning-numbered 0 instructions)

@@ -1,17 +1,13 @@
 -- The counts of one pass over an error model tell whether its blocks unroll to more lines than they may.
-use Rattle.std.proofs.Common.{◌≡◌, ℕ, ◌+◌, ◌<◌, ◌≤◌, ◌^◌, List, inl, inr, ◌∷◌, length, refl, sym, ap, ◌∙◌, arith, length-append}
-use Rattle.std.specs.Prelude.{min, nat_lt}
-use Rattle.std.proofs.lemmas.Bool.{cases_lt, lt-ltb, le-ltb}
-use Rattle.dem_text.specs.declared.unrolled.Unrolled.{Unrolled}
+use Rattle.std.proofs.Common.{◌≡◌, ℕ, zero, suc, ◌+◌, ◌-◌, ◌*◌, ◌<◌, ◌≤◌, ◌^◌, List, ◌∷◌, length, refl, ap, ◌∙◌, arith, length-append}
+use Rattle.std.specs.Prelude.{min}
+use Rattle.dem_text.specs.declared.counting.Unrolled.{Unrolled}
 use Rattle.dem_text.specs.Fitting.{AllFit, Fits}
-use Rattle.dem_text.specs.private.Unrolled.{greatest, lines_inside, capped_sum, nothing_counted, counts_after, counts_repeated, counting, Counts}
-use Rattle.dem_text.specs.Reached.{block_lines, has_many_lines, most_lines}
-use Rattle.stim_lexer.specs.Reached.{total}
-use Rattle.stim_lexer.specs.declared.blocks.OpenBlock.{OpenBlock}
-use Rattle.stim_lexer.specs.Passes.{Passes, behind}
-use Rattle.dem_text.specs.private.TableLines.{stand_of}
-use Rattle.dem_text.specs.Texts.{Item}
-use Rattle.stim_lexer.specs.Trees.{InstructionLine, BlockStart, BlockEnd, Nothing, Then, Block, items_of}
+use Rattle.dem_text.specs.private.Unrolled.{greatest, lines_inside, nothing_counted, counts_after, counts_repeated, counting, few_counted, few_of}
+use Rattle.dem_text.specs.Reached.{block_lines}
+use Rattle.stim_lexer.specs.Reached.{copies, reached, total}
+use Rattle.stim_lexer.specs.Passes.{behind}
+use Rattle.stim_lexer.specs.Trees.{BlockEnd, Nothing, Then, Block, items_of}
 use Rattle.stim_lexer.proofs.CappedSums.{KeepsSum, whole-sum}
 use Rattle.dem_text.specs.Trees.{Tree}
 use Rattle.dem_text.specs.Verdicts.{Instruction}
@@ -48,17 +44,11 @@ few-outside (Block line turns body rest) =
     let r = few-outside rest in
     let l = length-append (items_of body) (BlockEnd ∷ items_of rest) in omega (arith, r, l)
 
-tells : (inside outside limit blocks p : ℕ) → outside ≡ min p greatest → inside ≡ min (p + blocks) greatest → p < 2 ^ 64 → limit < 2 ^ 64
-    → nat_lt (min (outside + limit) greatest) inside ≡ nat_lt limit blocks
-tells inside outside limit blocks p o i few small =
-    elim (cases_lt limit blocks) as (λ _. nat_lt (min (outside + limit) greatest) inside ≡ nat_lt limit blocks) [
-      | inl more ↦ lt-ltb (min (outside + limit) greatest) inside (omega (arith, o, i, few, small, more)) ∙ sym (lt-ltb limit blocks more)
-      | inr less ↦ le-ltb (min (outside + limit) greatest) inside (omega (arith, o, i, few, small, less)) ∙ sym (le-ltb limit blocks less)
-    ]
+tells : (inside outside blocks p : ℕ) → outside ≡ min p greatest → inside ≡ min (p + blocks) greatest → p < 2 ^ 64 → few_of (inside - outside) ≡ few_of blocks
+tells inside outside blocks p o i few = omega (arith, o, i, few)
 
 -- behind the whole text
-pub counted : (t : Tree) (c : Unrolled) → AllFit t → c ≡ behind counting t nothing_counted → length (items_of t) < 2 ^ 64
-    → nat_lt (capped_sum c.outside most_lines) c.inside ≡ has_many_lines t
+pub counted : (t : Tree) (c : Unrolled) → AllFit t → c ≡ behind counting t nothing_counted → length (items_of t) < 2 ^ 64 → few_counted c ≡ few_of (block_lines t)
 counted t c fit e few =
     let inside : c.inside ≡ min (outer t + block_lines t) greatest =
     ap (λ (x : Unrolled). x.inside) e ∙ whole-sum inside_sum Fits t nothing_counted fit refl ∙ ap (λ n. min n greatest) (inside-parts t) in
@@ -66,11 +56,28 @@ counted t c fit e few =
     let outside : c.outside ≡ min (outer t) greatest =
     ap (λ (x : Unrolled). x.outside) e ∙ behind-outside t 0 nothing_counted refl ∙ ap (λ n. min n greatest) apart in
     let bound = few-outside t in
-    tells c.inside c.outside most_lines (block_lines t) (outer t) outside inside (omega (arith, bound, few)) (omega arith)
+    tells c.inside c.outside (block_lines t) (outer t) outside inside (omega (arith, bound, few))
 
--- a place counts as its item does
-pub counts_item : (item : Item) (c : Unrolled) (blocks : List (OpenBlock Unrolled)) (c' : Unrolled) (blocks' : List (OpenBlock Unrolled))
-    → Counts (stand_of item) c blocks c' blocks' → Passes counting item c blocks c' blocks'
-counts_item (InstructionLine i) c blocks c' blocks' h = h
-counts_item (BlockStart line turns) c blocks c' blocks' h = h
-counts_item BlockEnd c blocks c' blocks' h = h
+-- ---- how many lines are reached
+
+length-copies : {X : Type 0} (n : ℕ) (xs : List X) → length (copies n xs) ≡ n * length xs
+length-copies zero xs = omega arith
+length-copies (suc n) xs = let rest = length-copies n xs in omega (arith, rest, length-append xs (copies n xs))
+
+reached-inside : (t : Tree) → length (reached t) ≤ lines_inside t
+unfolding total
+reached-inside Nothing = omega arith
+reached-inside (Then i rest) = let r = reached-inside rest in omega (arith, r)
+reached-inside (Block line turns body rest) =
+    let r = reached-inside rest in
+    let b = reached-inside body in
+    let many : turns * length (reached body) ≤ turns * (1 + lines_inside body) = times turns (length (reached body)) (1 + lines_inside body) (omega (arith, b)) in
+    omega (arith, r, many, length-copies turns (reached body), length-append (copies turns (reached body)) (reached rest))
+  where
+    times : (n a b : ℕ) → a ≤ b → n * a ≤ n * b
+    times zero a b h = omega arith
+    times (suc n) a b h = let rest = times n a b h in omega (arith, rest, h)
+
+-- no more lines are reached than there are items and lines of blocks
+pub few-reached : (t : Tree) → length (reached t) ≤ length (items_of t) + block_lines t
+few-reached t = omega (arith, reached-inside t, inside-parts t, few-outside t)

@@ -12,8 +12,8 @@ use Rattle.stim_parser.specs.declared.table.Keyword.TheVariants.{Does, Repeats}
 use Rattle.gate_table.specs.Names.{named_in}
 use Rattle.dem_text.specs.declared.operation.Operation.{Operation}
 use Rattle.dem_text.specs.declared.operation.Operation.TheVariants.{PauliError, DetectorDeclaration, ObservableInclude, Shifts}
-use Rattle.dem_text.specs.declared.forms.TargetForm.{TargetForm}
-use Rattle.dem_text.specs.declared.forms.TargetForm.TheVariants.{Effects, Detectors, Observables, OneNumber}
+use Rattle.dem_text.specs.declared.target.TargetForm.{TargetForm}
+use Rattle.dem_text.specs.declared.target.TargetForm.TheVariants.{Effects, Detectors, Observables, OneNumber}
 
 -- the arguments that each keyword takes
 abbrev pub argument_form : Keyword Operation → ArgumentForm

@@ -1,7 +1,7 @@
 pub mod Shifts
 pub mod Meanings
 pub mod Models
-pub mod KeptTexts
+pub mod Predictions
 pub mod NamedLines
 pub mod Sums
 pub mod private

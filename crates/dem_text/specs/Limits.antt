@@ -5,8 +5,8 @@
 use Rattle.std.specs.Prelude.{ℕ, nat_lt, Bool, true, false, List, [], ◌∷◌}
 use Rattle.std.specs.List.{list_any, list_all}
 use Rattle.stim_parser.specs.Numbers.{is_number_beyond}
-use Rattle.dem_text.specs.declared.forms.TargetForm.{TargetForm}
-use Rattle.dem_text.specs.declared.forms.TargetForm.TheVariants.{Effects, Detectors, Observables, OneNumber}
+use Rattle.dem_text.specs.declared.target.TargetForm.{TargetForm}
+use Rattle.dem_text.specs.declared.target.TargetForm.TheVariants.{Effects, Detectors, Observables, OneNumber}
 use Rattle.dem_text.specs.declared.target.Target.{Target}
 use Rattle.dem_text.specs.declared.target.Target.TheVariants.{Plain, Detector, Observable, Separator}
 

@@ -15,7 +15,7 @@ use Rattle.step_model.specs.declared.fault.Cause.TheVariants as cause
 use Rattle.stim_lexer.specs.Instructions as lines
 use Rattle.stim_parser.specs.Judging.{Table}
 use Rattle.stim_parser.specs.Numbers.{greatest_number}
-use Rattle.dem_text.specs.declared.forms.TargetForm.{TargetForm}
+use Rattle.dem_text.specs.declared.target.TargetForm.{TargetForm}
 use Rattle.dem_text.specs.declared.operation.Operation.{Operation}
 use Rattle.dem_text.specs.declared.target.Target.{Target}
 use Rattle.dem_text.specs.declared.target.Target.TheVariants.{Plain}

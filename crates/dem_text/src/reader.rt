@@ -1,80 +1,151 @@
-ghost use Rattle.std.specs.Prelude.{◌≡◌, ◌⊎◌, ◌+◌, ◌<◌, ◌^◌, IfOk, IfErr, Ok, Err};
+//! The model that a text writes, its lines unrolled.
+ghost use Rattle.std.specs.Prelude.{◌≡◌, ◌⊎◌, ◌+◌, ◌^◌, ◌<◌, ◌≤◌, ◌++◌, [], ◌∷◌, Ok, Err, length, map, slice_index_or, IfOk, IfErr};
+ghost use Rattle.cursor.specs.Places.{AreNested};
 ghost use Rattle.step_model.specs.Faults.{memory_fault};
-ghost use Rattle.dem_text.specs.Models.{model_in, model_of_tree};
-ghost use Rattle.dem_text.specs.private.Leading.{IsLeading, IsModelOf};
-ghost use Rattle.dem_text.specs.private.Summed.{IsJudged, error_count};
-ghost use Rattle.dem_text.specs.private.Taking.{BeginsEmpty};
+ghost use Rattle.stim_lexer.specs.Flat.{tree_of};
+ghost use Rattle.stim_lexer.specs.Reached.{reached, greatest_by};
+ghost use Rattle.stim_parser.specs.Arguments.{arguments_in};
+ghost use Rattle.dem_text.specs.Meanings.{detectors_to, error_lines, meaning_of, observables_to};
+ghost use Rattle.dem_text.specs.Models.{model_in, placed_lines};
+ghost use Rattle.dem_text.specs.Shifts.{placed_at, shifted_target};
+ghost use Rattle.dem_text.specs.Texts.{items_in};
+ghost use Rattle.dem_text.specs.Verdicts.{Instruction};
+ghost use Rattle.dem_text.specs.private.Briefs.{IsKeptLine};
+ghost use Rattle.dem_text.specs.private.Counted.{AreCounts};
+ghost use Rattle.dem_text.specs.private.Ended.{HasCounts, IsKeptModel};
 
-use crate::build::model_of;
-use crate::counts::LineCounts;
-use crate::judging::counts_of;
-use crate::leading::{Leading, empty_lines, with_declarations};
-use crate::placed_model::PlacedModel;
-use crate::reading::read_lines;
-use crate::table::LineTable;
-use crate::unrolled::has_many_lines;
+use crate::brief::is_error;
+use crate::coordinates::coordinates_of;
+use crate::flips::read_flipped;
+use crate::front::Front;
+use crate::kept::{Keep, Keeping, Kept, KeptLine, keep_lines};
+use crate::standing::{LineCounts, Shift};
 use error_models::Model;
-use std::alloc::Allocator;
-use step_model::{Cause, Fault};
+use std::alloc::{AllocError, Allocator};
+use step_model::Fault;
+use stim_parser::{Last, first_argument};
 
-/// The counts of the lines as they are reached, or the refusal of their numbers.
-fn judged<A: Allocator + Copy>(alloc: A, table: &LineTable<'_, A>) -> Result<LineCounts, Fault>
-    ensures ok { IfOk result (λ counts. IsJudged table.now counts.detectors counts.observables
-        counts.errors) }
-    ensures err { IfErr result (λ fault. (fault ≡ memory_fault)
-        ⊎ (model_of_tree table.now ≡ Err fault)) }
-{
-    table.fits();
-    if has_many_lines(table) {
-        return Err(Fault {
-            cause: Cause::DemSteps,
-            line: 0,
-        });
-    }
-    counts_of(alloc, table)
+/// Room for a line's targets, by their numbers.
+#[derive(Drop)]
+struct Room<A: Allocator + Copy> {
+    numbers: Vec<u32, A>,
+    kept: Vec<u32, A>,
 }
 
-/// The error model of a text whose leading lines these are, or its one refusal.
-fn place_behind<'a, A: Allocator + Copy>(
-    alloc: A,
-    leading: Leading<'a>,
-) -> Result<PlacedModel<'a, A>, Fault>
-    requires { IsLeading leading.text.now leading.rest.now leading.lines leading.counts }
-    ensures ok { IfOk result (λ lines. IsModelOf leading.entry.text.now lines) }
-    ensures room { IfOk result (λ lines. leading.entry.lines + error_count lines < 2 ^ 64) }
-    ensures err { IfErr result
-        (λ fault. (fault ≡ memory_fault) ⊎ (model_in leading.entry.text.now ≡ Err fault)) }
+/// The text of the first argument, empty where there is none.
+fn first_text(arguments: &[u8]) -> &[u8]
+    ensures { result.now ≡ slice_index_or (arguments_in arguments.now) 0 [] }
 {
-    match read_lines(alloc, leading) {
-        Ok(table) => match judged(alloc, &table) {
-            Ok(counts) => {
-                let counts = leading.counts.and(counts);
-                Ok(PlacedModel {
-                    leading,
-                    table,
-                    counts,
-                })
-            }
-            Err(fault) => Err(fault),
-        },
-        Err(fault) => Err(fault),
+    match first_argument(arguments) {
+        Some(text) => text,
+        None => &[],
     }
 }
 
-/// The error model that a text writes, or its one refusal. The model's lines stay in the text, which begins with this many
-/// line feeds. The cause is `Memory` only where memory runs out.
-pub(crate) fn place<'a, A: Allocator + Copy>(
+/// Appends a line that is reached with this shift, if it is an error line.
+fn push_error<'a, A: Allocator + Copy>(
+    model: &mut Model<'a, A>,
+    room: &mut Room<A>,
+    counts: LineCounts,
+    shift: &Shift,
+    line: &KeptLine<'_, 'a>,
+) -> Result<(), AllocError>
+    requires detectors { greatest_by detectors_to
+        (map (shifted_target shift.now.detectors) line.now.targets.now) ≤ counts.detectors }
+    requires observables { greatest_by observables_to
+        (map (shifted_target shift.now.detectors) line.now.targets.now) ≤ counts.observables }
+    requires few { counts.detectors + counts.observables ≤ 2 ^ 32 }
+    ensures { IfOk result
+        (λ _. (i : Instruction) → IsKeptLine i line.now
+        → model.new
+        ≡ record model.old {
+          lines = model.old.lines
+              ++ error_lines counts.detectors counts.observables (placed_at shift.now i ∷ []);
+        }) }
+{
+    if !is_error(line.brief.operation) {
+        return Ok(());
+    }
+    read_flipped(
+        &mut room.numbers,
+        &mut room.kept,
+        counts,
+        shift.detectors,
+        line.targets,
+    )?;
+    model.push_line(first_text(line.arguments), room.kept.as_slice())
+}
+
+/// Appends the error lines among the lines that are reached.
+fn push_errors<'a, A: Allocator + Copy>(
     alloc: A,
-    text: &'a [u8],
-    empty: usize,
-) -> Result<PlacedModel<'a, A>, Fault>
-    requires { BeginsEmpty text.now empty }
-    ensures ok { IfOk result (λ lines. IsModelOf text.now lines) }
-    ensures room { IfOk result (λ lines. empty + error_count lines < 2 ^ 64) }
+    model: &mut Model<'a, A>,
+    kept: &Kept<'a, A>,
+    counts: LineCounts,
+) -> Result<(), AllocError>
+    requires nested { AreNested kept.now }
+    requires counts { AreCounts (placed_lines (tree_of kept.now)) counts.detectors
+        counts.observables counts.errors }
+    requires few { counts.detectors + counts.observables ≤ 2 ^ 32 }
+    requires short { length (reached (tree_of kept.now)) < 2 ^ 64 }
+    ensures { IfOk result
+        (λ _. model.new
+        ≡ record model.old {
+          lines = model.old.lines
+              ++ error_lines counts.detectors counts.observables (placed_lines (tree_of kept.now));
+        }) }
+{
+    let mut room = Room {
+        numbers: Vec::new(alloc),
+        kept: Vec::new(alloc),
+    };
+    let mut cursor = kept.start();
+    let mut shift = Shift::none();
+    while let Some(place) = kept.next(&mut cursor) {
+        let line = kept.line(place);
+        push_error(model, &mut room, counts, &shift, &line)?;
+        shift.pass(&line.brief, line.stated);
+    }
+    Ok(())
+}
+
+/// The model of lines, unrolled.
+fn model_of<'a, A: Allocator + Copy>(
+    alloc: A,
+    kept: &Kept<'a, A>,
+    counts: LineCounts,
+) -> Result<Model<'a, A>, AllocError>
+    requires { IsKeptModel kept.now counts }
+    ensures { IfOk result (λ model. model ≡ meaning_of (placed_lines (tree_of kept.now))) }
+{
+    let coordinates = coordinates_of(alloc, kept, counts.detectors as usize)?;
+    let mut model = Model::new(alloc, coordinates, counts.observables as usize);
+    push_errors(alloc, &mut model, kept, counts)?;
+    Ok(model)
+}
+
+/// The counts of the model that a text writes, or its one refusal.
+fn counts_in<A: Allocator + Copy>(alloc: A, text: &[u8]) -> Result<LineCounts, Fault>
+    ensures ok { IfOk result (λ counts. HasCounts text.now counts) }
     ensures err { IfErr result (λ fault. (fault ≡ memory_fault) ⊎ (model_in text.now ≡ Err fault)) }
 {
-    let leading = with_declarations(alloc, empty_lines(text, empty))?;
-    place_behind(alloc, leading)
+    let mut front = Front::new(alloc, &[], 0)?;
+    let (_, ended) = front.take_lines(text)?;
+    front.verdict(ended)
+}
+
+/// The lines of a text, or its refusal.
+fn kept_in<'a, A: Allocator + Copy>(alloc: A, text: &'a [u8]) -> Result<Kept<'a, A>, Fault>
+    ensures ok { IfOk result (λ kept. items_in text.now ≡ Ok kept) }
+    ensures few { IfOk result (λ kept. length kept ≤ length text.now) }
+    ensures err { IfErr result (λ fault. (fault ≡ memory_fault) ⊎ (items_in text.now ≡ Err fault)) }
+{
+    let mut last = Last::new();
+    let mut targets = Vec::new(alloc);
+    match keep_lines(Keeping::new(alloc), &mut last, &mut targets, true, 0, text)? {
+        Keep::Closed(kept, _, _) => Ok(kept),
+        Keep::Open(fault) | Keep::Refused(fault) => Err(fault),
+    }
 }
 
 /// The error model that a text writes, its lines unrolled, or its one refusal. The cause is `Memory` only where memory runs
@@ -83,11 +154,7 @@ pub fn read<'a, A: Allocator + Copy>(alloc: A, text: &'a [u8]) -> Result<Model<'
     ensures ok { IfOk result (λ model. model_in text.now ≡ Ok model) }
     ensures err { IfErr result (λ fault. (fault ≡ memory_fault) ⊎ (model_in text.now ≡ Err fault)) }
 {
-    match read_lines(alloc, empty_lines(text, 0)) {
-        Ok(table) => match judged(alloc, &table) {
-            Ok(counts) => Ok(model_of(alloc, &table, counts)?),
-            Err(fault) => Err(fault),
-        },
-        Err(fault) => Err(fault),
-    }
+    let counts = counts_in(alloc, text)?;
+    let kept = kept_in(alloc, text)?;
+    Ok(model_of(alloc, &kept, counts)?)
 }

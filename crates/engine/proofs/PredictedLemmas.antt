@@ -11,6 +11,7 @@ use Rattle.step_model.specs.ErrorModels.{ErrorModel}
 use Rattle.step_model.specs.Faults.{without_line, ◌>>=◌}
 use Rattle.dem_text.specs.Models.{model_in}
 use Rattle.dem_text.specs.NamedLines.{lines_named, symptom_of_numbers}
+use Rattle.dem_text.specs.Predictions.{HasSymptom}
 use Rattle.dem_text.specs.Sums.{symptom_of}
 use Rattle.forward_sim.specs.Listed.{IsListOf, IsNoList}
 use Rattle.frames.specs.Lines.{line_of}
@@ -40,21 +41,28 @@ module _ (lines text : List ℕ) (model : ErrorModel) (reads : model_in text ≡
   by_none : length model.lines < 2 ^ 64 → IsNoList lines → prediction_output lines text ≡ Err (without_line FaultNumber)
   by_none few none = of_model ∙ ap (of_named model) (none (length model.lines) few)
 
--- what the symptom of lines of these numbers says of a text
-abbrev HasSymptom : List ℕ → List ℕ → Option (List Bool) → Type 0
-HasSymptom numbers text found =
-    (model : ErrorModel) × (model_in text ≡ Ok model) × (length model.lines < 2 ^ 64) × (found ≡ symptom_of_numbers numbers model)
+-- the list is there, and the model has its lines
+pub predicted : (lines text : List ℕ) (listed : Option (Bor (List ℕ))) (flipped : List Bool)
+    → IsReadAs lines (option_copied listed) → is_some listed ≡ true → HasSymptom (numbers_in (option_copied listed)) text (Some flipped)
+    → prediction_output lines text ≡ Ok (done (line_of flipped))
+predicted lines text None flipped read some has = absurd (true≢false (sym some))
+predicted lines text (Some slice) flipped read some has =
+    by_list lines text has.0 has.1 slice.now read ∙ ap symptom_output (sym has.3)
 
-pub predicted : (lines text : List ℕ) (listed : Option (Bor (List ℕ))) (numbers : List ℕ) (found : Option (List Bool))
-    → IsReadAs lines (option_copied listed) → numbers ≡ numbers_in (option_copied listed) → is_some listed ≡ true → HasSymptom numbers text found
-    → prediction_output lines text ≡ symptom_output found
-predicted lines text None numbers found read same some has = absurd (true≢false (sym some))
-predicted lines text (Some slice) numbers found read same some has =
-    by_list lines text has.0 has.1 slice.now read
-    ∙ ap symptom_output (sym (has.3 ∙ ap (λ ns. symptom_of_numbers ns has.0) same))
-
-pub no_list : (lines text : List ℕ) (listed : Option (Bor (List ℕ))) (numbers : List ℕ) (found : Option (List Bool))
-    → IsReadAs lines (option_copied listed) → is_some listed ≡ false → HasSymptom numbers text found
+-- the model lacks a line of the list, or no list is there
+pub no_line : (lines text : List ℕ) (listed : Option (Bor (List ℕ)))
+    → IsReadAs lines (option_copied listed) → HasSymptom (numbers_in (option_copied listed)) text None
     → prediction_output lines text ≡ Err (without_line FaultNumber)
-no_list lines text None numbers found read none has = by_none lines text has.0 has.1 has.2 read
-no_list lines text (Some slice) numbers found read none has = absurd (true≢false none)
+no_line lines text None read has = by_none lines text has.0 has.1 has.2 read
+no_line lines text (Some slice) read has = by_list lines text has.0 has.1 slice.now read ∙ ap symptom_output (sym has.3)
+
+-- no list is there
+pub no_list : (lines text : List ℕ) (listed : Option (Bor (List ℕ))) (found : Option (List Bool))
+    → IsReadAs lines (option_copied listed) → is_some listed ≡ false → HasSymptom (numbers_in (option_copied listed)) text found
+    → prediction_output lines text ≡ Err (without_line FaultNumber)
+no_list lines text None found read none has = by_none lines text has.0 has.1 has.2 read
+no_list lines text (Some slice) found read none has = absurd (true≢false none)
+
+-- the text writes no model
+pub refused : (lines text : List ℕ) (fault : Fault) → model_in text ≡ Err fault → prediction_output lines text ≡ Err fault
+refused lines text fault is = ap (λ (r : Result ErrorModel Fault). r >>= model_prediction lines) is

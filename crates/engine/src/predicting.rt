@@ -1,10 +1,10 @@
-//! The symptom of error lines: what they flip together. The list of lines is read before the model, so that of the lines
-//! that the model's text begins with only those that are named are kept.
+//! The symptom of error lines: what they flip together. The list of lines is read before the model, since of a line that it doesn't
+//! name nothing is added up.
 ghost use Rattle.std.specs.Prelude.{◌≡◌, ◌⊎◌, ℕ, List, Ok, Err, IfOk, IfErr};
 ghost use Rattle.std.specs.List.Sorted.{IsStrictlyIncreasing};
 ghost use Rattle.std.specs.Option.{option_copied};
 ghost use Rattle.step_model.specs.Faults.{memory_fault};
-ghost use Rattle.dem_text.specs.KeptTexts.{IsKeptOf};
+ghost use Rattle.dem_text.specs.Predictions.{IsPrediction};
 ghost use Rattle.engine.specs.Output.{done, prediction_output, refused_or};
 ghost use Rattle.engine.specs.private.Answered.{Answers};
 ghost use Rattle.engine.specs.private.Predicted.{IsReadAs, numbers_in};
@@ -14,7 +14,7 @@ use crate::answering::write_answer;
 use crate::lines::symptom_line;
 use crate::order::Status;
 use crate::refusing::refuse;
-use dem_text::{KeptText, keep_text};
+use dem_text::{Prediction, predict};
 use forward_sim::listed_numbers;
 use std::alloc::Allocator;
 use step_model::{Cause, Fault, Sink, Source};
@@ -55,8 +55,8 @@ fn serve_listed<R: Source, W: Sink, A: Allocator + Copy>(
         (λ text. Answers W.taken W.failures sink.old sink.new
         (refused_or (prediction_output lines text)) result) result }
 {
-    let kept = keep_text(alloc, numbers_in(listed), source)?;
-    write_prediction(alloc, listed, &kept, sink)
+    let found = predict(alloc, numbers_in(listed), source)?;
+    write_prediction(alloc, listed, &found, sink)
 }
 
 /// The numbers of a list; where it is none, of no line.
@@ -69,19 +69,19 @@ fn numbers_in<'n>(listed: Option<&'n [usize]>) -> &'n [usize]
     }
 }
 
-/// The same for a text that was kept for the list.
+/// Writes what was predicted for the list, or why it is refused.
 fn write_prediction<W: Sink, A: Allocator + Copy>(
     alloc: A,
     listed: Option<&[usize]>,
-    kept: &KeptText<A>,
+    found: &Prediction<A>,
     sink: &mut W,
 ) -> Result<Status, Fault>
     ensures { (lines text : List ℕ) → IsReadAs lines (option_copied listed.entry)
-        → IsKeptOf (numbers_in (option_copied listed.entry)) text kept.now
+        → IsPrediction (numbers_in (option_copied listed.entry)) text found.now
         → Answers W.taken W.failures sink.old sink.new
         (refused_or (prediction_output lines text)) result }
 {
-    match prediction_line(alloc, listed, kept) {
+    match prediction_line(alloc, listed, found) {
         Ok(line) => write_answer(sink, line.as_slice(), Status::Done),
         Err(fault) => refuse(alloc, fault, sink),
     }
@@ -91,23 +91,25 @@ fn write_prediction<W: Sink, A: Allocator + Copy>(
 fn prediction_line<A: Allocator + Copy>(
     alloc: A,
     listed: Option<&[usize]>,
-    kept: &KeptText<A>,
+    found: &Prediction<A>,
 ) -> Result<Vec<u8, A>, Fault>
     ensures ok { IfOk result (λ line. (lines text : List ℕ)
         → IsReadAs lines (option_copied listed.entry)
-        → IsKeptOf (numbers_in (option_copied listed.entry)) text kept.now
+        → IsPrediction (numbers_in (option_copied listed.entry)) text found.now
         → prediction_output lines text ≡ Ok (done line.items)) }
     ensures err { IfErr result (λ e. (lines text : List ℕ)
         → IsReadAs lines (option_copied listed.entry)
-        → IsKeptOf (numbers_in (option_copied listed.entry)) text kept.now
+        → IsPrediction (numbers_in (option_copied listed.entry)) text found.now
         → (e ≡ memory_fault) ⊎ (prediction_output lines text ≡ Err e)) }
 {
-    let found = kept.symptom(alloc, numbers_in(listed))?;
-    if listed.is_none() {
-        return Err(NO_SUCH_LINE);
+    match found {
+        Prediction::Refused(fault) => Err(*fault),
+        Prediction::NoSuchLine => Err(NO_SUCH_LINE),
+        Prediction::Symptom(flipped) => {
+            if listed.is_none() {
+                return Err(NO_SUCH_LINE);
+            }
+            Ok(symptom_line(alloc, flipped.as_slice())?)
+        }
     }
-    let Some(flipped) = found else {
-        return Err(NO_SUCH_LINE);
-    };
-    Ok(symptom_line(alloc, flipped.as_slice())?)
 }

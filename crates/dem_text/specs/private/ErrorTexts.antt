@@ -9,7 +9,7 @@ use Rattle.std.specs.List.{list_all}
 use Rattle.step_model.specs.Probabilities.{digits_value}
 use Rattle.stim_lexer.specs.Bytes.{is_empty}
 use Rattle.stim_parser.specs.Pieces.{ends_here}
-use Rattle.dem_text.specs.declared.counts.Extent.{Extent}
+use Rattle.dem_text.specs.declared.brief.Extent.{Extent}
 use Rattle.dem_text.specs.declared.target.Target.{Target}
 use Rattle.dem_text.specs.Limits.{has_target_beyond, is_effect}
 use Rattle.dem_text.specs.Meanings.{detectors_to, observables_to}

@@ -9,7 +9,7 @@ use Rattle.dem_text.specs.declared.operation.Operation.{Operation}
 use Rattle.dem_text.specs.declared.operation.Operation.TheVariants.{DetectorDeclaration, Shifts}
 use Rattle.dem_text.specs.Limits.{has_target_beyond}
 use Rattle.dem_text.specs.Verdicts.{Instruction}
-use Rattle.dem_text.specs.declared.counts.Extent.{Extent}
+use Rattle.dem_text.specs.declared.brief.Extent.{Extent}
 use Rattle.dem_text.specs.Meanings.{detectors_to, observables_to}
 use Rattle.stim_lexer.specs.Reached.{greatest_by}
 use Rattle.dem_text.specs.private.Offsets.{AreSmall}

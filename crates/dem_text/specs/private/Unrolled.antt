@@ -2,13 +2,11 @@
 -- all lines, as if they stood in one block, and one of the instructions that stand in no block. A count that doesn't
 -- fit 128 bits stays at the greatest number that does, which is above every limit. (What is counted is this project's
 -- choice.)
-use Rattle.std.specs.Prelude.{◌≡◌, ℕ, List, [], ◌∷◌, ◌++◌, ◌+◌, ◌-◌, ◌*◌, ◌^◌, min}
+use Rattle.std.specs.Prelude.{ℕ, ◌+◌, ◌-◌, ◌*◌, ◌^◌, min}
 use Rattle.stim_lexer.specs.Reached.{total}
-use Rattle.stim_lexer.specs.declared.blocks.OpenBlock.{OpenBlock}
-use Rattle.dem_text.specs.declared.table_line.Stand.{Stand}
-use Rattle.dem_text.specs.declared.table_line.Stand.TheVariants as stand
-use Rattle.dem_text.specs.declared.unrolled.Unrolled.{Unrolled}
-use Rattle.stim_lexer.specs.Passes.{HasClosed, Pass, opened}
+use Rattle.dem_text.specs.Reached.{most_lines}
+use Rattle.dem_text.specs.declared.counting.Unrolled.{Unrolled}
+use Rattle.stim_lexer.specs.Passes.{Pass}
 use Rattle.dem_text.specs.Trees.{Tree}
 use Rattle.dem_text.specs.Verdicts.{Instruction}
 
@@ -40,9 +38,10 @@ counts_repeated turns before after =
 abbrev pub counting : Pass Instruction Unrolled
 counting = record { step = counts_after; close = counts_repeated }
 
--- what a place does to the counts and to the open blocks, the outermost first
-abbrev pub Counts : Stand → Unrolled → List (OpenBlock Unrolled) → Unrolled → List (OpenBlock Unrolled) → Type 0
-Counts stand.Line c blocks c' blocks' =
-    (c' ≡ record { inside = capped_sum c.inside 1; outside = capped_sum c.outside 1 }) × (blocks' ≡ blocks)
-Counts (stand.BlockStart turns) c blocks c' blocks' = (c' ≡ c) × (blocks' ≡ blocks ++ opened turns c ∷ [])
-Counts stand.BlockEnd c blocks c' blocks' = HasClosed counting c blocks c' blocks'
+-- a number up to one more than there may be lines
+abbrev pub few_of : ℕ → ℕ
+few_of n = min n (most_lines + 1)
+
+-- the lines of all blocks, by these counts
+abbrev pub few_counted : Unrolled → ℕ
+few_counted c = few_of (c.inside - c.outside)

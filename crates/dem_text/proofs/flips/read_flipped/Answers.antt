@@ -1,15 +1,10 @@
 use Rattle.std.proofs.Common.{◌+◌, ◌<◌, List, ℕ, ap, map, subst, sym, ◌∙◌}
 use Rattle.std.specs.Prelude.{All}
-use Rattle.std.specs.List.Sorted.{IsNonDecreasing}
 use Rattle.std.proofs.lemmas.List.Sorted.{All-permutation}
 use Rattle.dem_text.specs.private.Numbered.{odd_below}
 use Rattle.dem_text.specs.Shifts.{shifted_target}
 use Rattle.dem_text.proofs.NumberLemmas.{all-numbers, same-odd}
 use Rattle.dem_text.proofs.flips.read_flipped.Goals as goal
-
-pub keep_odd-requires : goal.keep_odd-requires
-keep_odd-requires g c =
-    subst (λ (ns : List ℕ). IsNonDecreasing ns) (sym c.as_slice.ensures.value) c.in_ok-put_in_order.ensures.ascending
 
 pub returns : goal.returns
 returns g c =

@@ -1,7 +1,7 @@
 //! Error models that are read: the coordinates of their detectors, and what named lines flip.
-use dem_text::{Model, keep_text, laws, model_laws, read, symptom};
+use dem_text::{Model, Prediction, laws, predict, read, symptom};
 use std::alloc::{AllocError, Global};
-use step_model::{Fault, MemorySource};
+use step_model::{Cause, Fault, MemorySource};
 
 /// Whether a model has these coordinates, of each detector how many and which.
 fn has_coordinates(
@@ -44,9 +44,9 @@ fn has_model(alloc: Global) -> Result<bool, Fault> {
     laws::texts_are_judged_once();
     laws::texts_write_accepted_trees();
     laws::texts_stand_for_trees();
-    model_laws::texts_read_back();
-    model_laws::models_of_programs_read_back();
-    model_laws::models_of_texts_read_back();
+    laws::texts_read_back();
+    laws::models_of_programs_read_back();
+    laws::models_of_texts_read_back();
     let model = read(alloc, MODEL)?;
     Ok(is_model(alloc, &model)?)
 }
@@ -56,37 +56,52 @@ fn models_are_read(rt: HostRuntime) {
     assert!(rt; matches!(has_model(rt.alloc()), Ok(true)));
 }
 
-/// Two error lines that the text begins with, of which the second is kept, then lines that name them and one behind a shift.
-const KEPT: &[u8] =
-    b"error(0.1) D0\nerror(0.2) D1 L0\ndetector D2\nshift_detectors 1\nerror(0.3) D0 D1\n";
+/// Error lines of which two are named, a line that names a detector that no other does, and lines of a block that shifts.
+const PREDICTED: &[u8] =
+    b"error(0.1) D0\nerror(0.2) D1 L0\ndetector D2\nrepeat 2 {\nshift_detectors 1\nerror(0.3) D0 D1\n}\n";
 
-/// What the second and the third line flip: detectors 0 to 2, and the observable.
-const KEPT_SYMPTOM: &[bool] = &[false, false, true, true];
+/// What the second and the fourth line flip: detectors 0 to 3, and the observable.
+const PREDICTED_SYMPTOM: &[bool] = &[false, true, true, true, true];
 
-fn has_kept(alloc: Global) -> Result<bool, Fault> {
-    let numbers = [1, 2];
-    let mut source = MemorySource::new(KEPT);
-    let kept = keep_text(alloc, &numbers, &mut source)?;
-    match kept.symptom(alloc, &numbers)? {
-        Some(flipped) => Ok(flipped.as_slice() == KEPT_SYMPTOM),
-        None => Ok(false),
+fn predicts(alloc: Global) -> Result<bool, Fault> {
+    let numbers = [1, 3];
+    let mut source = MemorySource::new(PREDICTED);
+    match predict(alloc, &numbers, &mut source)? {
+        Prediction::Symptom(flipped) => Ok(flipped.as_slice() == PREDICTED_SYMPTOM),
+        _ => Ok(false),
     }
 }
 
 #[test]
-fn texts_are_kept(rt: HostRuntime) {
-    assert!(rt; matches!(has_kept(rt.alloc()), Ok(true)));
+fn symptoms_are_predicted(rt: HostRuntime) {
+    assert!(rt; matches!(predicts(rt.alloc()), Ok(true)));
 }
 
 /// A number that isn't below the count of the error lines.
 fn has_no_line(alloc: Global) -> Result<bool, Fault> {
-    let numbers = [3];
-    let mut source = MemorySource::new(KEPT);
-    let kept = keep_text(alloc, &numbers, &mut source)?;
-    Ok(kept.symptom(alloc, &numbers)?.is_none())
+    let numbers = [4];
+    let mut source = MemorySource::new(PREDICTED);
+    Ok(matches!(
+        predict(alloc, &numbers, &mut source)?,
+        Prediction::NoSuchLine
+    ))
 }
 
 #[test]
 fn lines_that_are_not_there_have_no_symptom(rt: HostRuntime) {
     assert!(rt; matches!(has_no_line(rt.alloc()), Ok(true)));
+}
+
+/// A text that ends in an open block.
+fn has_refused(alloc: Global) -> Result<bool, Fault> {
+    let mut source = MemorySource::new(b"error(0.1) D0\nrepeat 2 {\n");
+    match predict(alloc, &[], &mut source)? {
+        Prediction::Refused(fault) => Ok(fault.cause == Cause::DemBlock && fault.line == 2),
+        _ => Ok(false),
+    }
+}
+
+#[test]
+fn refusals_are_predicted(rt: HostRuntime) {
+    assert!(rt; matches!(has_refused(rt.alloc()), Ok(true)));
 }

@@ -1,5 +1,0 @@
-use Rattle.dem_text.proofs.MeaningLemmas.{one_model, reads_back}
-use Rattle.dem_text.proofs.model_laws.texts_read_back.Goals as goal
-
-pub returns : goal.returns
-returns c = record { same = reads_back; one_model = one_model }

@@ -1,0 +1,347 @@
+//! Lines that are kept, with their blocks: those of a block until it is closed, or of a whole text.
+ghost use Rattle.std.specs.Prelude.{◌≡◌, ◌⊎◌, ◌+◌, ◌<◌, ◌≤◌, ◌^◌, ℕ, false, true, List, [], Some, length, slice_get, IfOk, IfErr};
+ghost use Rattle.std.specs.List.{list_any};
+ghost use Rattle.stim_lexer.specs.Bytes.{is_line_feed};
+ghost use Rattle.cursor.specs.Moves.{GoesOver};
+ghost use Rattle.cursor.specs.Places.{AreNested, StandsIn, before_of, left_of};
+ghost use Rattle.flat_lists.specs.Short.{list_in};
+ghost use Rattle.stim_lexer.specs.Fitting.{IsWritten, ReadingFits};
+ghost use Rattle.stim_lexer.specs.Flat.{tree_of};
+ghost use Rattle.stim_lexer.specs.Judged.{left_open};
+ghost use Rattle.stim_lexer.specs.Reached.{reached};
+ghost use Rattle.stim_lexer.specs.Said.{reading_in};
+ghost use Rattle.stim_lexer.specs.Texts.{Accepts};
+ghost use Rattle.stim_lexer.specs.Trees.{InstructionLine};
+ghost use Rattle.stim_lexer.specs.Unfinished.{after_line, cause_in};
+ghost use Rattle.step_model.specs.declared.fault.Cause.TheVariants as cause;
+ghost use Rattle.dem_text.specs.Verdicts.{Instruction};
+ghost use Rattle.dem_text.specs.private.Briefs.{IsBrief, IsKeptLine};
+ghost use Rattle.dem_text.specs.Fitting.{Fits};
+ghost use Rattle.dem_text.specs.Reached.{block_lines};
+ghost use Rattle.dem_text.specs.private.Folds.{Folded, Follows, IsSound, fold_over};
+ghost use Rattle.dem_text.specs.private.Keeping.{IsKeeping, KeepsLine};
+ghost use Rattle.dem_text.specs.private.Making.{HasKeptLines, IsMaking};
+ghost use Rattle.dem_text.specs.private.Unrolled.{few_of};
+
+use crate::brief::{Brief, NO_LINE, brief_of, numbers_stated};
+use crate::counting::Counting;
+use crate::fold::Fold;
+use crate::judge::said_in;
+use crate::operation::Operation;
+use crate::target::Target;
+use arrayvec::ArrayVec;
+use cursor::Cursor;
+use flat_lists::{FlatLists, Short, ShortList};
+use std::alloc::{AllocError, Allocator};
+use std::marker::Model;
+use step_model::{Cause, Fault};
+use stim_lexer::{Builder, Item, Items, Said, first_line};
+use stim_parser::{Last, MOST_ARGUMENTS};
+
+impl Short<Target> for Target {
+    ghost long = { λ target. target };
+
+    fn shorten(item: Target) -> Option<Target> {
+        Some(item)
+    }
+
+    fn lengthen(self) -> Target {
+        self
+    }
+}
+
+/// Lines that are read one after another.
+#[derive(Drop)]
+pub(crate) struct Keeping<'a, A: Allocator + Copy> {
+    builder: Builder<'a, Operation, Target, Target, A>,
+    briefs: Vec<Brief, A>,
+    stated: FlatLists<i64, A>,
+}
+
+/// Lines whose blocks are closed.
+#[derive(Drop)]
+pub(crate) struct Kept<'a, A: Allocator + Copy> {
+    items: Items<'a, Operation, Target, Target, A>,
+    briefs: Vec<Brief, A>,
+    stated: FlatLists<i64, A>,
+}
+
+impl<'a, A: Allocator + Copy> Model for Kept<'a, A> {
+    ghost use Rattle.std.specs.Prelude.{List};
+    ghost use Rattle.stim_lexer.specs.Stored.{coded_items};
+    ghost use Rattle.dem_text.specs.Texts.{Item};
+    ghost use Rattle.dem_text.specs.private.Flat.{coded_instructions};
+    ghost use Rattle.dem_text.specs.private.Keeping.{AreKept};
+
+    ghost Value = { List Item };
+
+    ghost coded = { coded_items coded_instructions };
+
+    ghost view = { λ k. k.items.items };
+
+    ghost invariant = { λ k. AreKept k.items.items k.briefs.items k.stated };
+}
+
+/// What is known of a line, and the numbers that it states.
+#[derive(Drop)]
+struct Known {
+    brief: Brief,
+    stated: ArrayVec<i64, MOST_ARGUMENTS>,
+}
+
+/// A line that is kept: what is known of it, the numbers that it states, its targets, and the text in its parentheses.
+#[derive(Clone, Copy)]
+pub(crate) struct KeptLine<'k, 'a> {
+    pub brief: Brief,
+    pub stated: &'k [i64],
+    pub targets: &'k [Target],
+    pub arguments: &'a [u8],
+}
+
+/// What is known of the line of this number that says this, with these targets; of one that is no instruction nothing.
+fn known_in(line: u64, said: Said<'_, Operation>, targets: &[Target]) -> Known
+    requires { (depth : ℕ) × ReadingFits Fits depth (reading_in line said targets.now) }
+    ensures { (i : Instruction) → reading_in line said.entry targets.now ≡ Accepts i
+        → IsBrief i result.brief result.stated.items }
+{
+    match said {
+        Said::Accepts {
+            operation,
+            arguments,
+        } => Known {
+            brief: brief_of(line, operation, targets),
+            stated: numbers_stated(operation, arguments),
+        },
+        _ => Known {
+            brief: NO_LINE,
+            stated: ArrayVec::new(),
+        },
+    }
+}
+
+/// The targets of an item.
+#[inline(always)]
+fn all_of<'k>(targets: ShortList<'k, Target, Target>) -> &'k [Target]
+    ensures { result.now ≡ list_in (λ target. target) targets.entry }
+{
+    match targets {
+        ShortList::Short(targets) => targets,
+        ShortList::Long(targets) => targets,
+    }
+}
+
+impl<'a, A: Allocator + Copy> Keeping<'a, A> {
+    /// No lines. Takes no memory.
+    pub(crate) fn new(alloc: A) -> Self
+        ensures text { result.builder.text ≡ record { items = []; opened = [] } }
+        ensures kept { IsKeeping result }
+    {
+        Keeping {
+            builder: Builder::new(alloc),
+            briefs: Vec::new(alloc),
+            stated: FlatLists::new(alloc),
+        }
+    }
+
+    /// How many blocks are open.
+    #[inline(always)]
+    pub(crate) fn depth(&self) -> usize
+        ensures { result ≡ length self.now.builder.text.opened }
+    {
+        self.builder.depth()
+    }
+
+    /// Adds what the line of a number says. Answers the cause where it is refused. It fails only where memory runs out; what was
+    /// read before can't be used then.
+    pub(crate) fn take(
+        &mut self,
+        line: u64,
+        said: Said<'a, Operation>,
+        targets: &[Target],
+    ) -> Result<Option<Cause>, AllocError>
+        requires kept { IsKeeping self.old }
+        requires fits { ReadingFits Fits (length self.old.builder.text.opened)
+            (reading_in line said targets.now) }
+        ensures refused { IfOk result (λ refused. refused
+            ≡ cause_in (reading_in line said.entry targets.now)) }
+        ensures after { IfOk result (λ refused. self.new.builder.text
+            ≡ after_line line (reading_in line said.entry targets.now) self.old.builder.text) }
+        ensures kept { IfOk result (λ refused. IsKeeping self.new) }
+    {
+        if let Said::Refuses(cause) = said {
+            return Ok(Some(cause));
+        }
+        let known = known_in(line, said, targets);
+        self.briefs.push(known.brief)?;
+        self.stated.push(known.stated.as_slice())?;
+        self.builder.take(line, said, 0, targets)
+    }
+
+    /// The lines, where no block is left open. Otherwise the refusal, with the line of the innermost.
+    pub(crate) fn finish(self) -> Result<Kept<'a, A>, Fault>
+        requires { IsKeeping self }
+        ensures opened { IfOk result (λ kept. self.entry.builder.text.opened ≡ []) }
+        ensures items { IfOk result (λ kept. kept ≡ self.entry.builder.text.items) }
+        ensures err { IfErr result (λ fault. left_open cause.DemBlock self.entry.builder.text.opened
+            ≡ Some fault) }
+    {
+        let Keeping {
+            builder,
+            briefs,
+            stated,
+        } = self;
+        match builder.finish(Cause::DemBlock) {
+            Ok(items) => Ok(Kept {
+                items,
+                briefs,
+                stated,
+            }),
+            Err(fault) => Err(fault),
+        }
+    }
+}
+
+/// What reading lines to be kept came to: they are kept, and this follows, so many lines having been read; a block is left open,
+/// with its refusal where nothing follows; or a line is refused.
+#[derive(Drop)]
+pub(crate) enum Keep<'a, A: Allocator + Copy> {
+    Closed(Kept<'a, A>, &'a [u8], u64),
+    Open(Fault),
+    Refused(Fault),
+}
+
+/// Reads a line of this number. Answers the cause where it is refused.
+fn keep_line<'a, A: Allocator + Copy>(
+    keeping: &mut Keeping<'a, A>,
+    last: &mut Last<'a>,
+    targets: &mut Vec<Target, A>,
+    number: u64,
+    line: &'a [u8],
+) -> Result<Option<Cause>, AllocError>
+    requires kept { IsKeeping keeping.old }
+    requires one { list_any is_line_feed line.now ≡ false }
+    ensures kept { IfOk result (λ refused. IsKeeping keeping.new) }
+    ensures line { IfOk result (λ refused. KeepsLine number line.now refused keeping.old.builder.text
+        keeping.new.builder.text) }
+{
+    let depth = keeping.depth();
+    match said_in(last, targets, depth, number, line)? {
+        Some(said) => keeping.take(number, said, targets.as_slice()),
+        None => Ok(None),
+    }
+}
+
+/// Whether a line more is read: there is one, and the text is read whole or a block is open.
+#[inline(always)]
+fn goes_on(rest: &[u8], whole: bool, depth: usize) -> bool
+    ensures some { result ≡ true → 0 < length rest.now }
+    ensures ended { result ≡ false → (rest.now ≡ []) ⊎ ((whole ≡ false) × (depth ≡ 0)) }
+{
+    !rest.is_empty() && (whole || depth > 0)
+}
+
+/// Reads lines behind others: to the end of the block that is open, or, where `whole` is so, to the end of the text.
+pub(crate) fn keep_lines<'a, A: Allocator + Copy>(
+    mut keeping: Keeping<'a, A>,
+    last: &mut Last<'a>,
+    targets: &mut Vec<Target, A>,
+    whole: bool,
+    read: u64,
+    text: &'a [u8],
+) -> Result<Keep<'a, A>, AllocError>
+    requires kept { IsKeeping keeping }
+    requires room { read + length text.now < 2 ^ 64 }
+    ensures { IfOk result (λ found. (count : ℕ) (before : List (List ℕ))
+        → IsMaking count before keeping.entry.builder.text
+        → read ≡ count + length before
+        → HasKeptLines count before text.now read whole found) }
+{
+    let mut rest = text;
+    let mut number = read;
+    while goes_on(rest, whole, keeping.depth()) {
+        let (line, after) = first_line(rest);
+        number += 1;
+        if let Some(cause) = keep_line(&mut keeping, last, targets, number, line)? {
+            return Ok(Keep::Refused(Fault {
+                cause,
+                line: number,
+            }));
+        }
+        rest = after;
+    }
+    match keeping.finish() {
+        Ok(kept) => Ok(Keep::Closed(kept, rest, number)),
+        Err(fault) => Ok(Keep::Open(fault)),
+    }
+}
+
+impl<'a, A: Allocator + Copy> Kept<'a, A> {
+    /// The line at a place, where an instruction stands.
+    #[inline(always)]
+    pub(crate) fn line(&self, place: usize) -> KeptLine<'_, 'a>
+        requires { (i : Instruction) × (slice_get self.now place ≡ Some (InstructionLine i)) }
+        ensures { (i : Instruction) → slice_get self.now place ≡ Some (InstructionLine i)
+            → IsKeptLine i result }
+    {
+        match self.items.get(place) {
+            Item::InstructionLine(instruction) => KeptLine {
+                brief: self.briefs[place],
+                stated: self.stated.get(place),
+                targets: all_of(instruction.targets),
+                arguments: instruction.arguments,
+            },
+            _ => unreachable!(),
+        }
+    }
+
+    /// A cursor before all lines.
+    pub(crate) fn start(&self) -> Cursor
+        requires { AreNested self.now }
+        ensures place { StandsIn self.now result }
+        ensures before { before_of self.now result ≡ [] }
+        ensures left { left_of self.now result ≡ reached (tree_of self.now) }
+    {
+        Cursor::start(&self.items)
+    }
+
+    /// Goes over the next line, if one is left, and answers its place.
+    #[inline(always)]
+    pub(crate) fn next(&self, cursor: &mut Cursor) -> Option<usize>
+        requires { StandsIn self.now cursor.old }
+        ensures place { StandsIn self.now cursor.new }
+        ensures over { GoesOver self.now cursor.old cursor.new result }
+    {
+        cursor.next(&self.items)
+    }
+
+    /// Takes a fold over the lines as they are reached.
+    pub(crate) fn go_over(&self, fold: &mut Fold<'_, A>)
+        requires nested { AreNested self.now }
+        requires sound { IsSound fold.old.standing }
+        requires few { fold.old.standing.passed + length (reached (tree_of self.now)) < 2 ^ 64 }
+        ensures follows { (named : List ℕ) (f : Folded)
+            → Follows named f fold.old
+            → Follows named (fold_over named f (reached (tree_of self.now))) fold.new }
+        ensures sound { IsSound fold.new.standing }
+        ensures passed { fold.new.standing.passed
+            ≤ fold.old.standing.passed + length (reached (tree_of self.now)) }
+    {
+        let mut cursor = self.start();
+        while let Some(place) = self.next(&mut cursor) {
+            let line = self.line(place);
+            fold.take(&line.brief, line.stated, line.targets);
+        }
+    }
+
+    /// How many lines the blocks unroll to, up to one more than they may.
+    pub(crate) fn block_lines(&self) -> u64
+        requires { IsWritten Fits self.now }
+        ensures { result ≡ few_of (block_lines (tree_of self.now)) }
+    {
+        let mut counting = Counting::new();
+        for place in 0..self.items.len() {
+            counting.pass(self.items.get(place));
+        }
+        counting.counts.in_blocks()
+    }
+}
