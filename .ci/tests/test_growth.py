@@ -77,6 +77,12 @@ class Time(ProgramTest):
         """Of detectors that each stand once."""
         self.check_linear(["predict", "--lines", "0"], lambda count: f"error(0.1){named('D', range(count))}\n", 100_000)
 
+    def test_a_block_of_a_model(self):
+        """Its end comes some pieces behind its beginning, with braces of others between them or without."""
+        for line in "error(0.1) D0 D1\n", "repeat 1 {\nerror(0.1) D0 D1\n}\n":
+            with self.subTest(line=line):
+                self.check_linear(["predict", "--lines", "0"], lambda count, line=line: f"repeat 1 {{\n{line * count}}}\n", 60_000)
+
     def test_turns_that_do_not_repeat(self):
         """The length of words that each turn moves on doesn't matter: they aren't copied at each turn to be compared."""
         texts = [turning_words(30_000, 16, detectors, "") for detectors in (10, 1000)]
@@ -110,6 +116,13 @@ class Memory(ProgramTest):
     def test_error_lines_of_a_model(self):
         """20 MB of lines, of which one is named."""
         self.check_within(8, ["predict", "--lines", "7"], "error(0.1) D0 D1\n" * 1_200_000)
+
+    def test_error_lines_of_a_model_behind_a_shift(self):
+        self.check_within(8, ["predict", "--lines", "7"], "shift_detectors(1) 1\n" + "error(0.1) D0 D1\n" * 1_200_000)
+
+    def test_blocks_of_a_model(self):
+        """20 MB of them, one after another."""
+        self.check_within(8, ["predict", "--lines", "7"], "repeat 2 {\n    error(0.1) D0 D1\n}\n" * 600_000)
 
     def test_lines_of_a_turn(self):
         """A turn of 12,000 error lines with 1,000 targets each: these would take 48 MB."""
