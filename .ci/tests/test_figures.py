@@ -160,10 +160,9 @@ class OfTheGate(PagesTest):
         self.assertEqual(of_scripts, self.count("wrong-bodies"))
 
     def test_times_of_crates_are_those_of_the_gate(self):
-        """But for one that is told to be of another machine, 'some 680'. The first build has no tests, and not the cursor, which no
-        crate uses yet."""
+        """But for those that are told to be of another machine, as 'some 680'. The first build has no tests."""
         guessed_by = dict(re.findall(r"^(\w+) (\d+)$", page(".ci/build-times"), re.MULTILINE))
-        self.assertEqual(sorted(guessed_by), sorted(set(crates()) - {"test_support", "proved_tests", "cursor"}))
+        self.assertEqual(sorted(guessed_by), sorted(set(crates()) - {"test_support", "proved_tests"}))
         told = dict(re.findall(r"(\w+) \| (\d+|some \d+) \|", page(GATE).partition("## What a crate's proof takes")[2]))
         for crate, seconds in guessed_by.items():
             with self.subTest(crate=crate):
