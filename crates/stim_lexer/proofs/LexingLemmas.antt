@@ -41,7 +41,7 @@ cut_of-is line name body arguments targets stays_open braces n b s a t r = rw (n
 
 -- ---- lines passed over
 
-silent-is : (line content : List ℕ) (b : Bool) → content ≡ content_of line → b ≡ (length content == 0) → says_nothing line ≡ b
+pub silent-is : (line content : List ℕ) (b : Bool) → content ≡ content_of line → b ≡ (length content == 0) → says_nothing line ≡ b
 unfolding says_nothing
 silent-is line content b e f = is_empty-is (content_of line) ∙ (ap (λ (text : List ℕ). length text == 0) (sym e) ∙ sym f)
 

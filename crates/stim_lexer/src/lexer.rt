@@ -1,12 +1,14 @@
-ghost use Rattle.std.specs.Prelude.{◌≡◌, ◌+◌, ◌<◌, ◌^◌, ◌∷◌, [], length, IfErr, IfSome, Err, None};
+ghost use Rattle.std.specs.Prelude.{◌≡◌, ◌+◌, ◌<◌, ◌^◌, ◌∷◌, [], length, false, true, IfErr, IfSome, Err, MatchOption, MatchResult, None};
 ghost use Rattle.std.specs.List.{list_any};
+ghost use Rattle.step_model.specs.declared.fault.Cause.TheVariants as cause;
 ghost use Rattle.stim_lexer.specs.Bytes.{after_blanks};
-ghost use Rattle.stim_lexer.specs.Lexing.{after_silent, next_found, after_next, answered};
-ghost use Rattle.stim_lexer.specs.Lines.{content_of, lines_of};
+ghost use Rattle.stim_lexer.specs.Cut.{cut_of, has_bad_byte};
+ghost use Rattle.stim_lexer.specs.Lexing.{after_silent, next_found, after_next, answered, cut_in};
+ghost use Rattle.stim_lexer.specs.Lines.{content_of, lines_of, says_nothing};
 ghost use Rattle.stim_lexer.specs.private.Special.{is_special, IsPlain};
 
 use crate::line::{Line, Scanned, content_of, has_bad_byte, is_closing, line_of, parts_of};
-use crate::scan::{after_blanks, first_line, judge_line};
+use crate::scan::{after_blanks, any_special, first_line, judge_line};
 use std::marker::Model;
 use step_model::{Cause, Fault};
 
@@ -119,4 +121,33 @@ impl<'a> Lexer<'a> {
         }
         None
     }
+}
+
+/// The one line of this number, cut; none where it says nothing. A byte is refused as by `Lexer`.
+pub fn cut_line(number: u64, line: &[u8]) -> Result<Option<Line<'_>>, Fault>
+    ensures { MatchResult result
+        (λ found. MatchOption found (says_nothing line.now ≡ true)
+        (λ cut. (says_nothing line.now ≡ false) × (has_bad_byte line.now ≡ false)
+        × (cut.number ≡ number) × (cut_in cut ≡ cut_of line.now)))
+        (λ fault. (says_nothing line.now ≡ false) × (has_bad_byte line.now ≡ true)
+        × (fault ≡ record { cause = cause.Byte; line = number })) }
+{
+    let scanned = Scanned {
+        line,
+        start: after_blanks(line),
+        special: any_special(line),
+    };
+    let content = content_of(scanned);
+    if content.is_empty() {
+        return Ok(None);
+    }
+    let parts = parts_of(scanned);
+    if has_bad_byte(line, parts) {
+        return Err(Fault {
+            cause: Cause::Byte,
+            line: number,
+        });
+    }
+    let closes = is_closing(content);
+    Ok(Some(line_of(number, line, closes, parts)))
 }

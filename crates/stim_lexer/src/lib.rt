@@ -14,7 +14,7 @@ mod scan;
 pub use blocks::{LEVELS, OpenBlock};
 pub use builder::Builder;
 pub use items::{Instruction, Item, Items};
-pub use lexer::Lexer;
+pub use lexer::{Lexer, cut_line};
 pub use line::{Braces, Line};
 pub use said::Said;
 pub use scan::{after_blanks, cut_at, cut_near, first_line, is_blank};

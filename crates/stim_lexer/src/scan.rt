@@ -48,7 +48,7 @@ fn is_special(byte: u8) -> bool
 }
 
 #[inline(never)]
-fn any_special(line: &[u8]) -> bool
+pub(crate) fn any_special(line: &[u8]) -> bool
     ensures { result ≡ list_any is_special line.now }
 {
     let mut special = false;
