@@ -1,11 +1,11 @@
 -- An error line that begins as one before it, and whose targets were counted from their bytes, is taken.
-use Rattle.std.proofs.Common.{◌≡◌, ℕ, true, false, List, [], ◌∷◌, ◌++◌, ◌<◌, Option, Some, length, length-append, refl, ap, ap₂, subst, sym, ◌∙◌, append_assoc, append-nil, ◌⊎◌, inl, inr, arith}
+use Rattle.std.proofs.Common.{◌≡◌, ℕ, Bor, true, false, List, [], ◌∷◌, ◌++◌, ◌<◌, Option, Some, length, length-append, refl, ap, ap₂, subst, sym, ◌∙◌, append_assoc, append-nil, ◌⊎◌, inl, inr, arith}
 use Rattle.std.specs.Prelude.{codes, unwrap_or}
 use Rattle.std.specs.List.{before_first, list_all, list_any}
 use Rattle.stim_lexer.specs.Cut.{Cut}
 use Rattle.stim_parser.specs.declared.forms.ArgumentForm.TheVariants.{OneProbability}
 use Rattle.stim_parser.specs.Arguments.{arguments_in}
-use Rattle.stim_lexer.specs.Texts.{Accepts}
+use Rattle.stim_lexer.specs.Texts.{Accepts, line_reading}
 use Rattle.stim_parser.specs.Judging.{judged, reading_of, refusal_of}
 use Rattle.stim_parser.specs.Limits.{has_wrong_arguments, has_wrong_probability}
 use Rattle.stim_parser.specs.Probabilities.{AreProbabilities}
@@ -16,10 +16,11 @@ use Rattle.dem_text.specs.Limits.{are_of_form, has_target_beyond, is_effect}
 use Rattle.dem_text.specs.Targets.{targets_in}
 use Rattle.dem_text.specs.Verdicts.{model_table}
 use Rattle.dem_text.specs.declared.brief.Extent.{Extent}
-use Rattle.dem_text.specs.private.ErrorTexts.{AreCounted, BeginsWithTargets, is_quiet}
+use Rattle.dem_text.specs.private.ErrorTexts.{AreListed, BeginsWithExtent, BeginsWithTargets, IsExtent, is_quiet}
 use Rattle.stim_lexer.specs.FirstLines.{IsFirstLine}
-use Rattle.dem_text.specs.private.Lines.{BeginsWithError, IsErrorLine}
-use Rattle.dem_text.specs.private.Lines.{instruction_cut, read_targets}
+use Rattle.dem_text.specs.private.Lines.{BeginsWithError, BeginsWithHead, IsErrorLine, IsReading, SaysFirst, instruction_cut, read_targets}
+use Rattle.dem_text.specs.Texts.{models}
+use Rattle.stim_lexer.specs.declared.said.Said.TheVariants as said
 use Rattle.dem_text.specs.private.Tables.{IsKnown}
 use Rattle.stim_lexer.specs.Bytes.{from_first, is_close_parenthesis, is_line_feed}
 use Rattle.stim_lexer.proofs.ScanLemmas.{lines_of-cut}
@@ -51,13 +52,13 @@ reading_found depth number arguments text targets right read effects within =
     let probability : has_wrong_probability OneProbability (arguments_in arguments) ≡ false = right.2 in
     rw (read, count, probability, effects, within) refl
 
-known_found : (number : ℕ) (arguments text : List ℕ) (extent : Extent) → (h : AreCounted text (record { detectors = 0; observables = 0 }) extent) → read_targets text ≡ h.targets
+known_found : (number : ℕ) (arguments text : List ℕ) (targets : List Target) (extent : Extent) → has_target_beyond targets ≡ false → IsExtent targets extent → read_targets text ≡ targets
     → IsKnown (instruction_cut number PauliError (cut_line arguments text)) extent []
-known_found number arguments text extent h read =
+known_found number arguments text targets extent within h read =
     record {
-      extent_is = rw read (let d = h.detectors in let o = h.observables in both extent _ _ (omega (arith, d)) (omega (arith, o)));
+      extent_is = rw read (both extent _ _ h.detectors h.observables);
       numbers_are = refl;
-      within = ap has_target_beyond read ∙ h.within;
+      within = ap has_target_beyond read ∙ within;
       few = omega arith;
       small = λ k d below. absurd (omega (arith, below));
     }
@@ -65,17 +66,32 @@ known_found number arguments text extent h read =
     both : (e : Extent) (d o : ℕ) → e.detectors ≡ d → e.observables ≡ o → e ≡ record { detectors = d; observables = o }
     both e d o f g = ap₂ (λ (x y : ℕ). record { detectors = x; observables = y }) f g
 
-error_line : (arguments targets : List ℕ) (extent : Extent) → list_all is_quiet arguments ≡ true → AreProbabilities OneProbability (arguments_in arguments)
-    → (h : AreCounted targets (record { detectors = 0; observables = 0 }) extent) → IsErrorLine (codes "error(" ++ (arguments ++ 41 ∷ targets)) extent
-error_line arguments targets extent quiet right h =
-    let read : read_targets targets ≡ h.targets = ap (λ (found : Option (List Target)). unwrap_or found []) h.read in
-    let cut = error_cut arguments targets quiet h.quiet in
-    let good = cut.good in
-    record {
-      speaks = record { speaks = cut.speaks; good = cut.good };
-      known = λ number. subst (λ (c : Cut). IsKnown (instruction_cut number PauliError c) extent []) (sym cut.cut_is) (known_found number arguments targets extent h read);
-      taken = λ number opened. rw (good, cut.cut_is) (reading_found (length opened) number arguments targets h.targets right h.read h.effects h.within);
-    }
+-- the targets of a text that are listed
+list_is : (text : List ℕ) (targets : List Target) → AreListed text targets → read_targets text ≡ targets
+list_is text targets h = ap (λ (found : Option (List Target)). unwrap_or found []) h.read
+
+module _ (arguments text : List ℕ) (targets : List Target) (quiet : list_all is_quiet arguments ≡ true) (right : AreProbabilities OneProbability (arguments_in arguments)) (h : AreListed text targets) where
+  abbrev line : List ℕ
+  line = codes "error(" ++ (arguments ++ 41 ∷ text)
+
+  cut : IsCut line (cut_line arguments text)
+  cut = error_cut arguments text quiet h.quiet
+
+  taken : (number : ℕ) (opened : List ℕ) → line_reading models opened number line ≡ Accepts (instruction_cut number PauliError (cut_line arguments text))
+  taken number opened =
+      let good = cut.good in
+      rw (good, cut.cut_is) (reading_found (length opened) number arguments text targets right h.read h.effects h.within)
+
+  error_line : (extent : Extent) → IsExtent targets extent → IsErrorLine line extent
+  error_line extent x =
+      record {
+        speaks = record { speaks = cut.speaks; good = cut.good };
+        known = λ number. subst (λ (c : Cut). IsKnown (instruction_cut number PauliError c) extent []) (sym cut.cut_is) (known_found number arguments text targets extent h.within x (list_is text targets h));
+        taken = λ number opened. taken number opened ∙ ap (λ (c : Cut). Accepts (instruction_cut number PauliError c)) (sym cut.cut_is);
+      }
+
+  said_of : (number depth : ℕ) → IsReading depth number line (Accepts (record { line = number; operation = PauliError; arguments = arguments_in arguments; targets = targets }))
+  said_of number depth opened same = sym (taken number opened ∙ ap (λ (ts : List Target). Accepts (record { line = number; operation = PauliError; arguments = arguments_in arguments; targets = ts })) (list_is text targets h))
 
 -- the first line of a text that has no line feed, or one after it
 first_of : (text line after : List ℕ) → 0 < length line → list_any is_line_feed line ≡ false → ((text ≡ line) × (after ≡ [])) ⊎ (text ≡ line ++ 10 ∷ after) → IsFirstLine text line after
@@ -102,17 +118,31 @@ first_of text line after some one (inr e) =
       less = omega (arith, long);
     })
 
-pub begins_with_error : (text arguments rest after : List ℕ) (extent : Extent) → text ≡ codes "error(" ++ (arguments ++ 41 ∷ rest)
-    → list_all is_quiet arguments ≡ true → AreProbabilities OneProbability (arguments_in arguments) → BeginsWithTargets rest extent after → BeginsWithError text extent after
-begins_with_error text arguments rest after extent e quiet right h =
-    let line = codes "error(" ++ (arguments ++ 41 ∷ h.targets) in
-    record {
-      line = line;
-      first = first_of text line after (omega arith) (error_cut arguments h.targets quiet h.counted.quiet).one (by h.parts);
-      error = error_line arguments h.targets extent quiet right h.counted;
-    }
+-- the line that begins so
+begins_with : (text arguments rest front after : List ℕ) (targets : List Target) → BeginsWithHead text arguments rest → AreListed front targets → ((rest ≡ front) × (after ≡ [])) ⊎ (rest ≡ front ++ 10 ∷ after)
+    → IsFirstLine text (codes "error(" ++ (arguments ++ 41 ∷ front)) after
+begins_with text arguments rest front after targets head listed parts =
+    first_of text (codes "error(" ++ (arguments ++ 41 ∷ front)) after (omega arith) (error_cut arguments front head.quiet listed.quiet).one (by parts)
   where
-    by : ((rest ≡ h.targets) × (after ≡ [])) ⊎ (rest ≡ h.targets ++ 10 ∷ after)
-        → ((text ≡ codes "error(" ++ (arguments ++ 41 ∷ h.targets)) × (after ≡ [])) ⊎ (text ≡ (codes "error(" ++ (arguments ++ 41 ∷ h.targets)) ++ 10 ∷ after)
-    by (inl p) = inl (e ∙ ap (λ r. codes "error(" ++ (arguments ++ 41 ∷ r)) p.0, p.1)
-    by (inr p) = inr (e ∙ ap (λ r. codes "error(" ++ (arguments ++ 41 ∷ r)) p ∙ ap (λ r. codes "error(" ++ r) (sym (append_assoc arguments (41 ∷ h.targets) (10 ∷ after))))
+    by : ((rest ≡ front) × (after ≡ [])) ⊎ (rest ≡ front ++ 10 ∷ after)
+        → ((text ≡ codes "error(" ++ (arguments ++ 41 ∷ front)) × (after ≡ [])) ⊎ (text ≡ (codes "error(" ++ (arguments ++ 41 ∷ front)) ++ 10 ∷ after)
+    by (inl p) = inl (head.text_is ∙ ap (λ r. codes "error(" ++ (arguments ++ 41 ∷ r)) p.0, p.1)
+    by (inr p) = inr (head.text_is ∙ ap (λ r. codes "error(" ++ (arguments ++ 41 ∷ r)) p ∙ ap (λ r. codes "error(" ++ r) (sym (append_assoc arguments (41 ∷ front) (10 ∷ after))))
+
+pub begins_with_error : (text arguments rest after : List ℕ) (extent : Extent) → BeginsWithHead text arguments rest → BeginsWithExtent rest extent after → BeginsWithError text extent after
+begins_with_error text arguments rest after extent head h =
+    let b = h.begins in
+    record {
+      line = codes "error(" ++ (arguments ++ 41 ∷ b.front);
+      first = begins_with text arguments rest b.front after h.targets head b.listed b.parts;
+      error = error_line arguments b.front h.targets head.quiet head.right b.listed extent h.extent_is;
+    }
+
+pub begins_with_said : (text rest after : List ℕ) (arguments : Bor (List ℕ)) (targets : List Target) (depth number : ℕ) → BeginsWithHead text arguments.now rest → BeginsWithTargets rest targets after
+    → SaysFirst depth number text targets (Some (said.Accepts PauliError arguments)) after
+begins_with_said text rest after arguments targets depth number head b =
+    record {
+      line = codes "error(" ++ (arguments.now ++ 41 ∷ b.front);
+      first = begins_with text arguments.now rest b.front after targets head b.listed b.parts;
+      says = ((error_cut arguments.now b.front head.quiet b.listed.quiet).speaks, said_of arguments.now b.front targets head.quiet head.right b.listed number depth);
+    }

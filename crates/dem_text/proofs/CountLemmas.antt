@@ -13,14 +13,14 @@ pub max-more : (a b c : ℕ) → max (max a b) c ≡ max a (max b c)
 max-more a b c = omega arith
 
 -- one target more
-pub raised-next : (count : Target → ℕ) (a b : ℕ) (t : Target) (rest rest' : List Target) → rest ≡ t ∷ rest' → b ≡ max a (count t)
+pub raised-next : {X : Type 0} (count : X → ℕ) (a b : ℕ) (t : X) (rest rest' : List X) → rest ≡ t ∷ rest' → b ≡ max a (count t)
     → max b (greatest_by count rest') ≡ max a (greatest_by count rest)
 raised-next count a b t rest rest' e more =
     ap (λ n. max n (greatest_by count rest')) more
     ∙ max-more a (count t) (greatest_by count rest')
     ∙ ap (λ ts. max a (greatest_by count ts)) (sym e)
 
-pub raised-done : (count : Target → ℕ) (a : ℕ) (rest : List Target) → rest ≡ [] → a ≡ max a (greatest_by count rest)
+pub raised-done : {X : Type 0} (count : X → ℕ) (a : ℕ) (rest : List X) → rest ≡ [] → a ≡ max a (greatest_by count rest)
 raised-done count a rest e = sym (ap (λ ts. max a (greatest_by count ts)) e ∙ max-none a)
 
 pub within-first : (t : Target) (ts : List Target) → has_target_beyond (t ∷ ts) ≡ false → (is_target_beyond t ≡ false) × (has_target_beyond ts ≡ false)

@@ -12,12 +12,12 @@ use Rattle.stim_parser.specs.Pieces.{ends_here, ends_piece, is_star, pieces_of}
 use Rattle.stim_parser.specs.Targets.{each_of}
 use Rattle.dem_text.specs.declared.brief.Extent.{Extent}
 use Rattle.dem_text.specs.declared.target.Target.{Target}
-use Rattle.dem_text.specs.declared.target.Target.TheVariants.{Detector, Observable}
-use Rattle.dem_text.specs.private.ErrorTexts.{AreCounted, BeginsWithTargets, IsNumberFront, IsTargetFront, ends_line, is_quiet, is_word_byte}
+use Rattle.dem_text.specs.declared.target.Target.TheVariants.{Detector, Observable, Separator}
+use Rattle.dem_text.specs.private.ErrorTexts.{AreListed, BeginsWithExtent, BeginsWithTargets, IsBehindEnd, IsExtent, IsNumberFront, IsTargetFront, ends_line, is_quiet, is_word_byte}
 use Rattle.dem_text.specs.Limits.{has_target_beyond, is_effect, is_target_beyond}
 use Rattle.dem_text.specs.Meanings.{detectors_to, observables_to}
 use Rattle.dem_text.specs.Targets.{target_of, targets_in}
-use Rattle.dem_text.proofs.CountLemmas.{max-none, raised-next}
+use Rattle.stim_lexer.specs.Reached.{greatest_by}
 use Rattle.stim_parser.proofs.ByteLemmas.{all-where, both_all, none-where}
 use Rattle.stim_parser.proofs.CutLemmas.{first_piece}
 
@@ -75,6 +75,11 @@ target-front text inside rest letter n t e h few less byte effect read =
       effect = effect;
     }
 
+pub separator-front : (text inside rest : List ℕ) → text ≡ 32 ∷ inside → inside ≡ 94 ∷ rest → IsTargetFront text Separator rest
+unfolding target_of
+separator-front text inside rest e f =
+    record { word = 94 ∷ []; text_is = e ∙ ap (λ r. 32 ∷ r) f; some = refl; bytes = refl; target_is = refl; effect = refl }
+
 -- such a target before any other text
 pub before-any : (text rest more : List ℕ) (t : Target) (h : IsTargetFront text t rest) → IsTargetFront (32 ∷ (h.word ++ more)) t more
 before-any text rest more t h =
@@ -94,72 +99,83 @@ unfolding targets_in pieces_of
 one_read w rest t ts some bytes apart read more =
     ap (each_of target_of) (first_piece w rest some (none-where ends_piece is_word_byte w no_end_of_piece bytes) apart) ∙ rw (read, more) refl
 
-pub counted-done : (text : List ℕ) (counts : Extent) → text ≡ [] → AreCounted text counts counts
+listed-none : AreListed [] []
 unfolding targets_in pieces_of has_target_beyond
-counted-done text counts e =
-    subst (λ t. AreCounted t counts counts) (sym e)
-    (record {
-      apart = refl;
-      quiet = refl;
-      targets = [];
-      read = refl;
-      effects = refl;
-      within = refl;
-      detectors = sym (max-none counts.detectors);
-      observables = sym (max-none counts.observables);
-    })
+listed-none = record { apart = refl; quiet = refl; read = refl; effects = refl; within = refl }
 
-pub counted-next : (text after : List ℕ) (t : Target) (counts next found : Extent) → IsTargetFront text t after → is_target_beyond t ≡ false
-    → next.detectors ≡ max counts.detectors (detectors_to t) → next.observables ≡ max counts.observables (observables_to t)
-    → AreCounted after next found → AreCounted text counts found
+listed-first : (text after : List ℕ) (t : Target) (targets : List Target) → IsTargetFront text t after → is_target_beyond t ≡ false → AreListed after targets → AreListed text (t ∷ targets)
 unfolding has_target_beyond
-counted-next text after t counts next found front near detectors observables h =
-    subst (λ x. AreCounted x counts found) (sym front.text_is)
+listed-first text after t targets front near h =
+    subst (λ x. AreListed x (t ∷ targets)) (sym front.text_is)
     (record {
       apart = refl;
       quiet = both_all is_quiet front.word after (all-where is_quiet is_word_byte front.word word_is_quiet front.bytes) h.quiet;
-      targets = t ∷ h.targets;
-      read = one_read front.word after t h.targets front.some front.bytes h.apart front.target_is h.read;
-      effects = and_from (is_effect t) (list_all is_effect h.targets) front.effect h.effects;
-      within = or_from (is_target_beyond t) (list_any is_target_beyond h.targets) near h.within;
-      detectors = h.detectors ∙ raised-next detectors_to counts.detectors next.detectors t (t ∷ h.targets) h.targets refl detectors;
-      observables = h.observables ∙ raised-next observables_to counts.observables next.observables t (t ∷ h.targets) h.targets refl observables;
+      read = one_read front.word after t targets front.some front.bytes h.apart front.target_is h.read;
+      effects = and_from (is_effect t) (list_all is_effect targets) front.effect h.effects;
+      within = or_from (is_target_beyond t) (list_any is_target_beyond targets) near h.within;
     })
 
-abbrev none : Extent
-none = record { detectors = 0; observables = 0 }
-
--- some targets were read, and with any that follow they have the extent that these reach from there
-pub record AreRead (text rest : List ℕ) (counts : Extent) : Type 0 where
+-- these targets were read; with any that follow they are listed together
+pub record AreRead (text rest : List ℕ) (targets : List Target) : Type 0 where
   pub front : List ℕ
   pub text_is : text ≡ front ++ rest
-  pub all : (more : List ℕ) (found : Extent) → AreCounted more counts found → AreCounted (front ++ more) none found
+  pub all : (more : List ℕ) (later : List Target) → AreListed more later → AreListed (front ++ more) (targets ++ later)
 
-pub read-none : (text : List ℕ) → AreRead text text none
-read-none text = record { front = []; text_is = refl; all = λ more found h. h }
+pub read-none : (text : List ℕ) → AreRead text text []
+read-none text = record { front = []; text_is = refl; all = λ more later h. h }
 
-pub read-one : (text rest after : List ℕ) (t : Target) (counts next : Extent) → AreRead text rest counts → IsTargetFront rest t after → is_target_beyond t ≡ false
-    → next.detectors ≡ max counts.detectors (detectors_to t) → next.observables ≡ max counts.observables (observables_to t) → AreRead text after next
-read-one text rest after t counts next h front near detectors observables =
+pub read-one : (text rest after : List ℕ) (t : Target) (targets : List Target) → AreRead text rest targets → IsTargetFront rest t after → is_target_beyond t ≡ false → AreRead text after (targets ++ t ∷ [])
+read-one text rest after t targets h front near =
     record {
       front = h.front ++ (32 ∷ front.word);
       text_is = h.text_is ∙ ap (λ r. h.front ++ r) front.text_is ∙ sym (append_assoc h.front (32 ∷ front.word) after);
-      all = λ more found k.
-          subst (λ x. AreCounted x none found) (sym (append_assoc h.front (32 ∷ front.word) more))
-          (h.all (32 ∷ (front.word ++ more)) found (counted-next _ more t counts next found (before-any rest after more t front) near detectors observables k));
+      all = λ more later k.
+          subst (λ x. AreListed x ((targets ++ t ∷ []) ++ later)) (sym (append_assoc h.front (32 ∷ front.word) more))
+          (subst (λ us. AreListed (h.front ++ (32 ∷ (front.word ++ more))) us) (sym (append_assoc targets (t ∷ []) later))
+          (h.all (32 ∷ (front.word ++ more)) (t ∷ later) (listed-first _ more t later (before-any rest after more t front) near k)));
     }
 
-pub read-all : (text rest after : List ℕ) (counts : Extent) → AreRead text rest counts → ((rest ≡ []) × (after ≡ [])) ⊎ (rest ≡ 10 ∷ after) → BeginsWithTargets text counts after
-read-all text rest after counts h ends =
+pub read-all : (text rest after : List ℕ) (targets : List Target) → AreRead text rest targets → IsBehindEnd rest after → BeginsWithTargets text targets after
+read-all text rest after targets h ends =
     record {
-      targets = h.front;
-      counted = subst (λ x. AreCounted x none counts) (append-nil h.front) (h.all [] counts (counted-done [] counts refl));
+      front = h.front;
+      listed = subst (λ x. AreListed x targets) (append-nil h.front) (subst (λ us. AreListed (h.front ++ []) us) (append-nil targets) (h.all [] [] listed-none));
       parts = by ends;
     }
   where
-    by : ((rest ≡ []) × (after ≡ [])) ⊎ (rest ≡ 10 ∷ after) → ((text ≡ h.front) × (after ≡ [])) ⊎ (text ≡ h.front ++ 10 ∷ after)
+    by : IsBehindEnd rest after → ((text ≡ h.front) × (after ≡ [])) ⊎ (text ≡ h.front ++ 10 ∷ after)
     by (inl e) = inl (h.text_is ∙ ap (λ r. h.front ++ r) e.0 ∙ append-nil h.front, e.1)
     by (inr e) = inr (h.text_is ∙ ap (λ r. h.front ++ r) e)
+
+-- ---- their extent
+
+greatest-push : (to : Target → ℕ) (targets : List Target) (t : Target) → greatest_by to (targets ++ t ∷ []) ≡ max (greatest_by to targets) (to t)
+greatest-push to [] t = omega arith
+greatest-push to (u ∷ targets) t = let rest = greatest-push to targets t in omega (arith, rest)
+
+-- these counts are of the targets that were read
+pub record AreCounted (text rest : List ℕ) (counts : Extent) : Type 0 where
+  pub targets : List Target
+  pub read : AreRead text rest targets
+  pub extent_is : IsExtent targets counts
+
+pub counted-none : (text : List ℕ) → AreCounted text text (record { detectors = 0; observables = 0 })
+counted-none text = record { targets = []; read = read-none text; extent_is = record { detectors = refl; observables = refl } }
+
+pub counted-one : (text rest after : List ℕ) (t : Target) (counts next : Extent) → AreCounted text rest counts → IsTargetFront rest t after → is_target_beyond t ≡ false
+    → next.detectors ≡ max counts.detectors (detectors_to t) → next.observables ≡ max counts.observables (observables_to t) → AreCounted text after next
+counted-one text rest after t counts next h front near detectors observables =
+    record {
+      targets = h.targets ++ t ∷ [];
+      read = read-one text rest after t h.targets h.read front near;
+      extent_is = record {
+        detectors = detectors ∙ ap (λ n. max n (detectors_to t)) h.extent_is.detectors ∙ sym (greatest-push detectors_to h.targets t);
+        observables = observables ∙ ap (λ n. max n (observables_to t)) h.extent_is.observables ∙ sym (greatest-push observables_to h.targets t);
+      };
+    }
+
+pub counted-all : (text rest after : List ℕ) (counts : Extent) → AreCounted text rest counts → IsBehindEnd rest after → BeginsWithExtent text counts after
+counted-all text rest after counts h ends = record { targets = h.targets; begins = read-all text rest after h.targets h.read ends; extent_is = h.extent_is }
 
 -- where a line ends with a line feed
 pub line-ended : (rest after : List ℕ) → ends_line rest ≡ true → 0 < length rest → after ≡ drop 1 rest → rest ≡ 10 ∷ after

@@ -1,6 +1,6 @@
 -- Lines that are kept, one more of them, and the one at a place.
 use Rattle.std.proofs.Common.{◌≡◌, ℕ, zero, suc, ◌<◌, ℤ, List, [], ◌∷◌, ◌++◌, Some, Bor, length, get_or, refl, ap, subst, sym, ◌∙◌, arith}
-use Rattle.std.specs.Prelude.{slice_get}
+use Rattle.std.specs.Prelude.{nat_abs, slice_get}
 use Rattle.stim_lexer.specs.Arguments.{arguments_in}
 use Rattle.stim_lexer.specs.Fitting.{ReadingFits}
 use Rattle.stim_lexer.specs.Said.{reading_in}
@@ -50,7 +50,7 @@ kept-long (i ∷ items) [] stated h = absurd h
 kept-long (i ∷ items) (b ∷ briefs) [] h = absurd h
 kept-long (i ∷ items) (b ∷ briefs) (ns ∷ stated) h = let rest = kept-long items briefs stated h.1 in (ap suc rest.0, ap suc rest.1)
 
-pub kept-at : (items : List Item) (briefs : List Brief) (stated : List (List ℤ)) (k : ℕ) (i : Instruction) (default : Brief) → AreKept items briefs stated → slice_get items k ≡ Some (InstructionLine i)
+kept-at : (items : List Item) (briefs : List Brief) (stated : List (List ℤ)) (k : ℕ) (i : Instruction) (default : Brief) → AreKept items briefs stated → slice_get items k ≡ Some (InstructionLine i)
     → IsBrief i (get_or briefs k default) (get_or stated k [])
 kept-at [] briefs stated k i default h got = absurd (let e = got in cc)
 kept-at (item ∷ items) [] stated k i default h got = absurd h
@@ -58,6 +58,12 @@ kept-at (item ∷ items) (b ∷ briefs) [] k i default h got = absurd h
 kept-at (item ∷ items) (b ∷ briefs) (ns ∷ stated) zero i default h got =
     let same : item ≡ InstructionLine i = cc in subst (λ (x : Item). IsItemKept x b ns) same h.0
 kept-at (item ∷ items) (b ∷ briefs) (ns ∷ stated) (suc k) i default h got = kept-at items briefs stated k i default h.1 got
+
+-- what is handed out of a place
+pub kept-brief : (items : List Item) (briefs : List Brief) (stated : List (List ℤ)) (k : ℕ) (i : Instruction) (b default : Brief) (ns : List ℤ) → AreKept items briefs stated → slice_get items k ≡ Some (InstructionLine i)
+    → b ≡ get_or briefs k default → ns ≡ get_or stated k [] → IsBrief i b ns
+kept-brief items briefs stated k i b default ns h got e f =
+    subst (λ (x : Brief). IsBrief i x ns) (sym e) (subst (IsBrief i (get_or briefs k default)) (sym f) (kept-at items briefs stated k i default h got))
 
 -- where an item stands
 pub got-within : (items : List Item) (k : ℕ) (item : Item) → slice_get items k ≡ Some item → k < length items
@@ -79,13 +85,14 @@ amount-is Shifts amount targets e = e
 
 -- what is known of an instruction that fits
 pub brief-fitting : (i : Instruction) (b : Brief) (stated : List ℤ) → Fits i → b.line ≡ i.line → b.operation ≡ i.operation → b.extent.detectors ≡ greatest_by detectors_to i.targets → b.extent.observables ≡ greatest_by observables_to i.targets
-    → b.amount ≡ number_in i.targets → stated ≡ numbers_of_line i → IsBrief i b stated
-brief-fitting i b stated fits line operation detectors observables amount numbers =
+    → b.amount ≡ number_in i.targets → b.reach ≡ greatest_by nat_abs stated → stated ≡ numbers_of_line i → IsBrief i b stated
+brief-fitting i b stated fits line operation detectors observables amount reach numbers =
     record {
       line_is = line;
       operation_is = operation;
       known = known-fitting i b.extent stated fits detectors observables numbers;
       amount_is = amount-is i.operation b.amount i.targets amount;
+      reach_is = reach;
     }
 
 -- the item of what a line says, of which this is known

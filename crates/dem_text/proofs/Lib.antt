@@ -13,7 +13,6 @@ pub mod InstructionTexts
 pub mod KeepingLemmas
 pub mod LaterLemmas
 pub mod LineCutLemmas
-pub mod LineLemmas
 pub mod LineReadLemmas
 pub mod MakingLemmas
 pub mod MarkLemmas
@@ -28,6 +27,7 @@ pub mod ProgramLemmas
 pub mod ReadLemmas
 pub mod ReadModelLemmas
 pub mod ReaderLemmas
+pub mod SameLemmas
 pub mod ShiftLemmas
 pub mod StandLemmas
 pub mod StandingLemmas

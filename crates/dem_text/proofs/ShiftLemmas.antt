@@ -1,11 +1,14 @@
 -- Offsets added number by number, coordinates moved by them, and what there is room for.
-use Rattle.std.proofs.Common.{◌≡◌, ℕ, zero, suc, ◌+◌, ◌*◌, ◌^◌, ◌<◌, ◌≤◌, ℤ, pos, ◌+ℤ◌, List, [], ◌∷◌, length, drop, get_or, map, Bor, Bool, true, false, ◌||◌, refl, subst, ap, ap₂, sym, ◌∙◌, inl, inr, arith}
-use Rattle.std.specs.Prelude.{All, max, nat_abs, nat_lt}
-use Rattle.std.proofs.lemmas.Bool.{cases_lt, ltb-false}
+use Rattle.std.proofs.Common.{◌≡◌, ℕ, zero, suc, ◌+◌, ◌-◌, ◌*◌, ◌^◌, ◌<◌, ◌≤◌, ℤ, pos, ◌+ℤ◌, List, [], ◌∷◌, ◌++◌, append_assoc, append-nil, length, length-append, take, drop, get_or, set, replicate, map, Bool, true, false, ◌||◌, refl, subst, ap, ap₂, sym, ◌∙◌, inl, inr, arith}
+use Rattle.std.specs.Prelude.{All, max, min, nat_abs, nat_lt}
+use Rattle.std.specs.List.{list_any}
+use Rattle.stim_lexer.specs.Reached.{greatest_by}
+use Rattle.dem_text.specs.Models.{is_coordinate_beyond}
+use Rattle.std.proofs.lemmas.Bool.{cases_lt, le-ltb, ltb-false, or_from}
 use Rattle.std.proofs.Math.IntN.{+ℤ_idl, +ℤ_idr}
 use Rattle.std.proofs.lemmas.Int.{ints}
-use Rattle.std.proofs.lemmas.List.{drop_all, get_or_past}
-use Rattle.std.proofs.lemmas.List.Elements.{All-cons}
+use Rattle.std.proofs.lemmas.List.{drop_all, get_or_past, length-replicate, length-take}
+use Rattle.std.proofs.lemmas.List.Elements.{All-append, All-cons, All-replicate}
 use Rattle.stim_parser.specs.declared.forms.ArgumentForm.{ArgumentForm}
 use Rattle.stim_parser.specs.declared.forms.ArgumentForm.TheVariants.{NoArguments, ProbabilityAtWill, OneProbability, WholeNumbers, Decimals, OneNumber}
 use Rattle.stim_parser.specs.Limits.{has_argument_beyond, has_wrong_arguments, is_wrong_count}
@@ -21,7 +24,7 @@ use Rattle.dem_text.specs.Instructions.{argument_form}
 use Rattle.dem_text.specs.Limits.{has_target_beyond, is_target_beyond}
 use Rattle.dem_text.specs.Verdicts.{Instruction, number_in}
 use Rattle.dem_text.specs.declared.brief.Extent.{Extent}
-use Rattle.dem_text.specs.private.Offsets.{AreSmall, HasRoom, beyond_stated, number_at}
+use Rattle.dem_text.specs.private.Offsets.{AreSmall, HasRoom, beyond_stated, number_at, padded}
 use Rattle.dem_text.specs.Shifts.{Shift, shift_after, shifted_by}
 use Rattle.stim_parser.specs.Offsets.{shifted, moved}
 use Rattle.dem_text.specs.private.Tables.{IsKnown, numbers_stated}
@@ -39,6 +42,63 @@ pub length-both : (offset more : List ℤ) → length (shifted offset more) ≡ 
 length-both [] more = omega arith
 length-both (o ∷ offset) [] = omega arith
 length-both (o ∷ offset) (m ∷ more) = let rest = length-both offset more in omega (arith, rest)
+
+-- ---- an offset that is lengthened and then added to
+
+pub padded-push : (axes : ℕ) (offset : List ℤ) → length offset < axes → padded axes (offset ++ pos 0 ∷ []) ≡ padded axes offset
+padded-push axes offset h =
+    let long = length-append offset (pos 0 ∷ []) in
+    let fewer : axes - length offset ≡ suc (axes - length (offset ++ pos 0 ∷ [])) = omega (arith, long, h) in
+    append_assoc offset (pos 0 ∷ []) (replicate (axes - length (offset ++ pos 0 ∷ [])) (pos 0))
+    ∙ ap (λ n. offset ++ replicate n (pos 0)) (sym fewer)
+
+pub padded-done : (axes : ℕ) (offset : List ℤ) → axes ≤ length offset → padded axes offset ≡ offset
+padded-done axes offset h =
+    let none : axes - length offset ≡ 0 = omega (arith, h) in
+    ap (λ n. offset ++ replicate n (pos 0)) none ∙ append-nil offset
+
+pub long-padded : (axes : ℕ) (offset : List ℤ) → axes ≤ length (padded axes offset)
+long-padded axes offset =
+    let long = length-append offset (replicate (axes - length offset) (pos 0)) in
+    omega (arith, long, length-replicate (axes - length offset) (pos 0))
+
+shifted-zeros : (more : List ℤ) → shifted (replicate (length more) (pos 0)) more ≡ more
+shifted-zeros [] = refl
+shifted-zeros (m ∷ more) = ap₂ (λ (x : ℤ) (xs : List ℤ). x ∷ xs) (+ℤ_idl m) (shifted-zeros more)
+
+pub shifted-padded : (offset more : List ℤ) → shifted (padded (length more) offset) more ≡ shifted offset more
+shifted-padded [] more =
+    let all : length more - 0 ≡ length more = omega arith in
+    ap (λ n. shifted (replicate n (pos 0)) more) all ∙ shifted-zeros more
+shifted-padded (o ∷ offset) [] = ap (λ xs. shifted xs []) (padded-done 0 (o ∷ offset) (omega arith))
+shifted-padded (o ∷ offset) (m ∷ more) =
+    let fewer : length (m ∷ more) - length (o ∷ offset) ≡ length more - length offset = omega arith in
+    ap (λ n. (o +ℤ m) ∷ shifted (offset ++ replicate n (pos 0)) more) fewer ∙ ap (λ xs. (o +ℤ m) ∷ xs) (shifted-padded offset more)
+
+pub shifted-none : (offset : List ℤ) → shifted offset [] ≡ offset
+shifted-none [] = refl
+shifted-none (o ∷ offset) = refl
+
+-- a place that nothing was added to yet
+pub still-at : (offset more : List ℤ) (j : ℕ) → number_at (shifted offset (take j more)) j ≡ number_at offset j
+still-at offset more j =
+    let long = length-take j more in
+    sym (both-at offset (take j more) j)
+    ∙ ap (λ n. number_at offset j +ℤ n) (get_or_past (take j more) j (pos 0) (omega (arith, long)))
+    ∙ +ℤ_idr (number_at offset j)
+
+pub shifted-next : (offset more : List ℤ) (j : ℕ) → j < length more → length more ≤ length offset
+    → set (shifted offset (take j more)) j (number_at offset j +ℤ number_at more j) ≡ shifted offset (take (j + 1) more)
+shifted-next offset more j h few =
+    let later : suc j ≡ j + 1 = omega arith in
+    at_next offset more j h few ∙ ap (λ k. shifted offset (take k more)) later
+  where
+    at_next : (offset more : List ℤ) (j : ℕ) → j < length more → length more ≤ length offset
+        → set (shifted offset (take j more)) j (number_at offset j +ℤ number_at more j) ≡ shifted offset (take (suc j) more)
+    at_next offset [] j h few = absurd (omega (arith, h))
+    at_next [] (m ∷ more) j h few = absurd (omega (arith, few))
+    at_next (o ∷ offset) (m ∷ more) zero h few = ap (λ xs. (o +ℤ m) ∷ xs) (sym (shifted-none offset))
+    at_next (o ∷ offset) (m ∷ more) (suc j) h few = ap (λ xs. (o +ℤ m) ∷ xs) (at_next offset more j (omega (arith, h)) (omega (arith, few)))
 
 -- ---- coordinates
 
@@ -68,10 +128,6 @@ moved-next offset stated j e h =
     ∙ ap (λ k. (get_or offset j (pos 0) +ℤ get_or stated j e) ∷ moved (drop k offset) (drop k stated)) later
 
 -- ---- arguments
-
-pub values-lent : (lent : List (Bor (List ℕ))) → map (λ text. whole_value text.now) lent ≡ map whole_value (map (λ text. text.now) lent)
-values-lent [] = refl
-values-lent (text ∷ lent) = ap (λ vs. whole_value text.now ∷ vs) (values-lent lent)
 
 few : (form : ArgumentForm) (n : ℕ) → is_wrong_count form n ≡ false → n ≤ 16
 few NoArguments n h = grind arith
@@ -137,6 +193,9 @@ small-at numbers k small =
       | inr past ↦ let none = ap nat_abs (get_or_past numbers k (pos 0) past) in omega (arith, none)
     ]
 
+abs-sum : (a b : ℤ) → nat_abs (a +ℤ b) ≤ nat_abs a + nat_abs b
+abs-sum a b = grind (arith, ints)
+
 room-both : (offset more : List ℤ) (n x : ℕ) → x + beyond_stated * suc n < 2 ^ 127 → All (λ o. nat_abs o + beyond_stated * suc n < 2 ^ 127) offset → AreSmall more
     → All (λ o. nat_abs o + beyond_stated * n < 2 ^ 127) (shifted offset more)
 room-both [] more n x few room small = λ k d below. let one = small k d below in omega (arith, one, few)
@@ -148,9 +207,6 @@ room-both (o ∷ offset) (m ∷ more) n x few room small =
     All-cons (λ o. nat_abs o + beyond_stated * n < 2 ^ 127) (o +ℤ m) (shifted offset more)
     (omega (arith, here, one, sum))
     (room-both offset more n x few (λ k d below. room (suc k) d (omega (arith, below))) (λ k d below. small (suc k) d (omega (arith, below))))
-  where
-    abs-sum : (a b : ℤ) → nat_abs (a +ℤ b) ≤ nat_abs a + nat_abs b
-    abs-sum a b = grind (arith, ints)
 
 -- what is left of the room after a line
 pub room-next : (i : Instruction) (e : Extent) (ns : List ℤ) (s : Shift) (n : ℕ) → IsKnown i e ns → HasRoom s (suc n) → HasRoom (shift_after i s) n
@@ -168,3 +224,54 @@ room-next i e ns s n known room = after i.operation i.arguments i.targets (numbe
           detectors = let now = room.detectors in omega (arith, now, few);
           offset = room-both s.offset (map whole_value arguments) n (s.detectors) room.detectors room.offset small;
         }
+
+pub room-padded : (axes : ℕ) (offset : List ℤ) → All (λ o. nat_abs o + beyond_stated < 2 ^ 127) offset → All (λ o. nat_abs o + beyond_stated < 2 ^ 127) (padded axes offset)
+room-padded axes offset room =
+    All-append (λ o. nat_abs o + beyond_stated < 2 ^ 127) offset _ room (All-replicate (λ o. nat_abs o + beyond_stated < 2 ^ 127) (axes - length offset) (pos 0) (omega arith))
+
+-- ---- how far an offset reaches
+
+small-near : (stated : List ℤ) (q : ℕ) → greatest_by nat_abs stated ≤ q → q ≤ 999_999_999_999_999_999 → list_any is_coordinate_beyond stated ≡ false
+small-near [] q h few = refl
+small-near (c ∷ stated) q h few =
+    or_from (is_coordinate_beyond c) (list_any is_coordinate_beyond stated)
+    (le-ltb 999_999_999_999_999_999 (nat_abs c) (omega (arith, h, few))) (small-near stated q (omega (arith, h)) few)
+
+pub near-moved : (offset stated : List ℤ) (r q : ℕ) → All (λ o. nat_abs o ≤ r) offset → greatest_by nat_abs stated ≤ q → r + q ≤ 999_999_999_999_999_999 → list_any is_coordinate_beyond (moved offset stated) ≡ false
+near-moved offset [] r q reach h few = ap (list_any is_coordinate_beyond) (moved-past offset)
+near-moved [] (c ∷ stated) r q reach h few = small-near (c ∷ stated) q h (omega (arith, few))
+near-moved (o ∷ offset) (c ∷ stated) r q reach h few =
+    let here = reach 0 (pos 0) (omega arith) in
+    let sum = abs-sum o c in
+    or_from (is_coordinate_beyond (o +ℤ c)) (list_any is_coordinate_beyond (moved offset stated))
+    (le-ltb 999_999_999_999_999_999 (nat_abs (o +ℤ c)) (omega (arith, here, sum, h, few)))
+    (near-moved offset stated r q (λ k d below. reach (suc k) d (omega (arith, below))) (omega (arith, h)) few)
+
+pub reach-both : (offset more : List ℤ) (r q : ℕ) → All (λ o. nat_abs o ≤ r) offset → greatest_by nat_abs more ≤ q → All (λ o. nat_abs o ≤ r + q) (shifted offset more)
+reach-both [] [] r q reach h = λ k d below. absurd (omega (arith, below))
+reach-both [] (m ∷ more) r q reach h =
+    All-cons (λ o. nat_abs o ≤ r + q) m more (omega (arith, h)) (reach-both [] more r q reach (omega (arith, h)))
+reach-both (o ∷ offset) [] r q reach h = λ k d below. let one = reach k d below in omega (arith, one)
+reach-both (o ∷ offset) (m ∷ more) r q reach h =
+    let here = reach 0 (pos 0) (omega arith) in
+    let sum = abs-sum o m in
+    All-cons (λ o. nat_abs o ≤ r + q) (o +ℤ m) (shifted offset more) (omega (arith, here, sum, h))
+    (reach-both offset more r q (λ k d below. reach (suc k) d (omega (arith, below))) (omega (arith, h)))
+
+-- it is no more than 128 bits hold
+pub reach-held : (offset more : List ℤ) (r q x : ℕ) → All (λ o. nat_abs o + beyond_stated < 2 ^ 127) offset → AreSmall more → All (λ o. nat_abs o ≤ r) offset → greatest_by nat_abs more ≤ q
+    → x ≡ min (r + q) (2 ^ 128 - 1) → All (λ o. nat_abs o ≤ x) (shifted offset more)
+reach-held offset more r q x room small reach h e = λ k d below.
+    let low = reach-both offset more r q reach h k d below in
+    let held = within offset more room small k d below in
+    omega (arith, low, held, e)
+  where
+    within : (offset more : List ℤ) → All (λ o. nat_abs o + beyond_stated < 2 ^ 127) offset → AreSmall more → All (λ o. nat_abs o < 2 ^ 127) (shifted offset more)
+    within [] more room small = λ k d below. let one = small k d below in omega (arith, one)
+    within (o ∷ offset) [] room small = λ k d below. let one = room k d below in omega (arith, one)
+    within (o ∷ offset) (m ∷ more) room small =
+        let here = room 0 (pos 0) (omega arith) in
+        let one = small 0 (pos 0) (omega arith) in
+        let sum = abs-sum o m in
+        All-cons (λ o. nat_abs o < 2 ^ 127) (o +ℤ m) (shifted offset more) (omega (arith, here, one, sum))
+        (within offset more (λ k d below. room (suc k) d (omega (arith, below))) (λ k d below. small (suc k) d (omega (arith, below))))

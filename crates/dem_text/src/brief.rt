@@ -1,8 +1,9 @@
 //! What is known of a line, however often it is reached.
-ghost use Rattle.std.specs.Prelude.{◌≡◌, ◌≤◌, false, length, map, max};
+ghost use Rattle.std.specs.Prelude.{◌≡◌, false, max, nat_abs};
 ghost use Rattle.stim_parser.specs.Arguments.{arguments_in};
-ghost use Rattle.stim_parser.specs.Numbers.{whole_value};
-ghost use Rattle.dem_text.specs.Verdicts.{number_in};
+ghost use Rattle.stim_parser.specs.declared.table.Keyword.TheVariants.{Does};
+ghost use Rattle.stim_parser.specs.Limits.{has_wrong_arguments};
+ghost use Rattle.dem_text.specs.Verdicts.{model_table, number_in};
 ghost use Rattle.dem_text.specs.private.Tables.{numbers_stated};
 ghost use Rattle.dem_text.specs.Limits.{has_target_beyond, is_target_beyond};
 ghost use Rattle.dem_text.specs.Meanings.{detectors_to, is_error, observables_to};
@@ -12,7 +13,7 @@ use crate::judge::number_in;
 use crate::operation::Operation;
 use crate::target::Target;
 use arrayvec::ArrayVec;
-use stim_parser::{MOST_ARGUMENTS, read_arguments, whole_values};
+use stim_parser::{MOST_ARGUMENTS, put_whole_numbers};
 
 /// One more than the greatest detector and the greatest observable that targets name, or 0.
 #[derive(Clone, Copy)]
@@ -27,13 +28,15 @@ pub(crate) const NONE: Extent = Extent {
     observables: 0,
 };
 
-/// A line's number and operation, the extent of its targets, and by how much it shifts detectors, where it does.
+/// A line's number and operation, the extent of its targets, by how much it shifts detectors, where it does, and the greatest
+/// magnitude of the numbers that it states.
 #[derive(Clone, Copy)]
 pub(crate) struct Brief {
     pub line: u64,
     pub operation: Operation,
     pub extent: Extent,
     pub amount: u64,
+    pub reach: u64,
 }
 
 /// Of no line.
@@ -42,6 +45,7 @@ pub(crate) const NO_LINE: Brief = Brief {
     operation: Operation::ObservableInclude,
     extent: NONE,
     amount: 0,
+    reach: 0,
 };
 
 /// One more than the detector that a target names, or 0.
@@ -92,8 +96,19 @@ pub(crate) fn extent_of(targets: &[Target]) -> Extent
     found
 }
 
-/// What is known of the line of this number with these targets.
-pub(crate) fn brief_of(line: u64, operation: Operation, targets: &[Target]) -> Brief
+/// The greatest magnitude of some numbers, or 0.
+fn reach_of(numbers: &[i64]) -> u64
+    ensures { result ≡ greatest_by nat_abs numbers.now }
+{
+    let mut found: u64 = 0;
+    for number in numbers {
+        found = found.max(number.unsigned_abs());
+    }
+    found
+}
+
+/// What is known of the line of this number with these targets, which states these numbers.
+pub(crate) fn brief_of(line: u64, operation: Operation, targets: &[Target], stated: &[i64]) -> Brief
     requires { has_target_beyond targets.now ≡ false }
     ensures { result
         ≡ record {
@@ -104,6 +119,7 @@ pub(crate) fn brief_of(line: u64, operation: Operation, targets: &[Target]) -> B
             observables = greatest_by observables_to targets.now;
           };
           amount = number_in targets.now;
+          reach = greatest_by nat_abs stated.now;
         } }
 {
     Brief {
@@ -111,31 +127,25 @@ pub(crate) fn brief_of(line: u64, operation: Operation, targets: &[Target]) -> B
         operation,
         extent: extent_of(targets),
         amount: number_in(targets),
+        reach: reach_of(stated),
     }
 }
 
-/// Arguments as whole numbers.
-fn whole_numbers_in(arguments: &[u8]) -> ArrayVec<i64, MOST_ARGUMENTS>
-    requires { length (arguments_in arguments.now) ≤ MOST_ARGUMENTS }
-    ensures { result.items ≡ map whole_value (arguments_in arguments.now) }
-{
-    match read_arguments(arguments) {
-        Some(found) => whole_values(found.as_slice()),
-        None => ArrayVec::new(),
-    }
-}
-
-/// The numbers that a line of this kind states.
-pub(crate) fn numbers_stated(
+/// Puts the numbers that an accepted line of this kind states into `found`, in place of what it held.
+pub(crate) fn put_stated(
+    found: &mut ArrayVec<i64, MOST_ARGUMENTS>,
     operation: Operation,
     arguments: &[u8],
-) -> ArrayVec<i64, MOST_ARGUMENTS>
-    requires { length (arguments_in arguments.now) ≤ MOST_ARGUMENTS }
-    ensures { result.items ≡ numbers_stated operation (arguments_in arguments.now) }
+)
+    requires { has_wrong_arguments (model_table.argument_form (Does operation)) (arguments_in arguments.now)
+        ≡ false }
+    ensures { found.new.items ≡ numbers_stated operation (arguments_in arguments.now) }
 {
     match operation {
-        Operation::DetectorDeclaration | Operation::Shifts => whole_numbers_in(arguments),
-        _ => ArrayVec::new(),
+        Operation::DetectorDeclaration | Operation::Shifts => {
+            put_whole_numbers(found, arguments);
+        }
+        _ => found.clear(),
     }
 }
 

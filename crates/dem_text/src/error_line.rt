@@ -1,22 +1,28 @@
 //! An error line as nearly all are written, read straight from its bytes where it begins as one before it.
-ghost use Rattle.std.specs.Prelude.{◌≡◌, ◌<◌, ◌≤◌, ◌∷◌, ◌++◌, ℕ, List, [], true, codes, length, IfSome};
+ghost use Rattle.std.specs.Prelude.{◌≡◌, ◌<◌, ◌≤◌, ◌∷◌, ◌++◌, ℕ, List, [], true, codes, length, Some, IfOk, IfSome};
 ghost use Rattle.std.specs.List.{list_all};
 ghost use Rattle.stim_parser.specs.Arguments.{arguments_in};
 ghost use Rattle.stim_parser.specs.declared.forms.ArgumentForm.TheVariants.{OneProbability};
 ghost use Rattle.stim_parser.specs.Probabilities.{AreProbabilities};
-ghost use Rattle.dem_text.specs.private.ErrorTexts.{is_quiet, BeginsWithTargets, IsNumberFront, IsTargetFront, ends_line};
-ghost use Rattle.dem_text.specs.private.Lines.{BeginsWithError};
+ghost use Rattle.dem_text.specs.private.ErrorTexts.{is_quiet, BeginsWithExtent, BeginsWithTargets, IsBehindEnd, IsNumberFront, IsTargetFront, ends_line};
+ghost use Rattle.dem_text.specs.private.Lines.{BeginsWithError, BeginsWithHead, SaysFirst};
 ghost use Rattle.std.specs.Char.{is_ascii_digit};
 
 use crate::brief::{Extent, NONE, raised_to};
+use crate::judge::said_in;
+use crate::operation::Operation;
 use crate::target::{Target, is_target_beyond};
-use stim_lexer::cut_at;
+use std::alloc::{AllocError, Allocator};
+use stim_lexer::{Said, cut_at, first_line};
 use stim_parser::{
-    ArgumentForm, LastProbability, has_wrong_arguments, has_wrong_probability, read_arguments,
+    ArgumentForm, Last, LastProbability, has_wrong_arguments, has_wrong_probability, read_arguments,
 };
 
 /// The greatest number after which one more digit is read.
-const MOST_READ: u64 = 99_999_999;
+const MOST_READ: u32 = 99_999;
+
+/// So many digits are looked for: no number of as many is within its limit, if it doesn't begin with zeros.
+const MOST_DIGITS: usize = 7;
 
 /// The digit that a text begins with, and what follows it.
 #[inline(always)]
@@ -32,25 +38,29 @@ fn front_digit(text: &[u8]) -> Option<(u8, &[u8])>
 
 /// The number of the digits that a text begins with, and what follows them. There is none where they are many.
 #[inline(always)]
-fn front_number(text: &[u8]) -> Option<(u64, &[u8])>
+fn front_number(text: &[u8]) -> Option<(u32, &[u8])>
     ensures front { IfSome result (λ front. IsNumberFront text.now front.0 front.1.now) }
-    ensures few { IfSome result (λ front. front.0 < 1_000_000_000_000_000_000) }
+    ensures few { IfSome result (λ front. front.0 < 1_000_000) }
     ensures less { IfSome result (λ front. length front.1.now < length text.now) }
 {
-    let mut number: u64 = 0;
+    let mut number: u32 = 0;
     let mut rest = text;
-    while let Some((digit, after)) = front_digit(rest) {
+    // At a count that is known the loop takes no test of it.
+    for _ in 0..MOST_DIGITS {
+        let Some((digit, after)) = front_digit(rest) else {
+            return if rest.len() < text.len() {
+                Some((number, rest))
+            } else {
+                None
+            };
+        };
         if number > MOST_READ {
             return None;
         }
-        number = 10 * number + (digit - b'0') as u64;
+        number = 10 * number + (digit - b'0') as u32;
         rest = after;
     }
-    if rest.len() < text.len() {
-        Some((number, rest))
-    } else {
-        None
-    }
+    None
 }
 
 /// What follows a byte, where a text begins with it.
@@ -73,11 +83,14 @@ fn front_target(text: &[u8]) -> Option<(Target, &[u8])>
     let inside = behind_byte(b' ', text)?;
     if let Some(digits) = behind_byte(b'D', inside) {
         let (number, rest) = front_number(digits)?;
-        return Some((Target::Detector(number), rest));
+        return Some((Target::Detector(number as u64), rest));
     }
-    let digits = behind_byte(b'L', inside)?;
-    let (number, rest) = front_number(digits)?;
-    Some((Target::Observable(number), rest))
+    if let Some(digits) = behind_byte(b'L', inside) {
+        let (number, rest) = front_number(digits)?;
+        return Some((Target::Observable(number as u64), rest));
+    }
+    let rest = behind_byte(b'^', inside)?;
+    Some((Target::Separator, rest))
 }
 
 /// Whether a line ends where a text begins.
@@ -88,11 +101,23 @@ fn ends_line(text: &[u8]) -> bool
     matches!(text, [] | [b'\n', ..])
 }
 
+/// What follows the end of a line at which a text begins.
+#[inline(always)]
+fn behind_end(text: &[u8]) -> &[u8]
+    requires { ends_line text.now ≡ true }
+    ensures { IsBehindEnd text.now result.now }
+{
+    match text {
+        [_, after @ ..] => after,
+        [] => text,
+    }
+}
+
 /// The extent of the targets of an error line that a text begins with, and what follows the line. There is none where a
 /// target is written in a rare way, or is refused.
 #[inline(always)]
-pub(crate) fn extent_in(text: &[u8]) -> Option<(Extent, &[u8])>
-    ensures { IfSome result (λ found. BeginsWithTargets text.now found.0 found.1.now) }
+fn extent_in(text: &[u8]) -> Option<(Extent, &[u8])>
+    ensures { IfSome result (λ found. BeginsWithExtent text.now found.0 found.1.now) }
 {
     let mut found = NONE;
     let mut rest = text;
@@ -104,10 +129,30 @@ pub(crate) fn extent_in(text: &[u8]) -> Option<(Extent, &[u8])>
         found = raised_to(found, target);
         rest = after;
     }
-    match rest {
-        [_, after @ ..] => Some((found, after)),
-        [] => Some((found, rest)),
+    Some((found, behind_end(rest)))
+}
+
+/// Puts the same targets into `targets`, in place of what it held, and answers what follows the line.
+fn put_targets<'t, A: Allocator + Copy>(
+    targets: &mut Vec<Target, A>,
+    text: &'t [u8],
+) -> Result<Option<&'t [u8]>, AllocError>
+    ensures { IfOk result (λ found. IfSome found
+        (λ after. BeginsWithTargets text.now targets.new.items after.now)) }
+{
+    targets.clear();
+    let mut rest = text;
+    while !ends_line(rest) {
+        let Some((target, after)) = front_target(rest) else {
+            return Ok(None);
+        };
+        if is_target_beyond(target) {
+            return Ok(None);
+        }
+        targets.push(target)?;
+        rest = after;
     }
+    Ok(Some(behind_end(rest)))
 }
 
 /// How an error line began, up to the end of its parentheses, and what stood in them, where it is accepted: most lines that follow
@@ -129,8 +174,61 @@ fn is_quiet(text: &[u8]) -> bool
         .all(|byte| *byte == b' ' || (43..=122).contains(byte))
 }
 
-/// What follows `front` in a text that begins with it.
+/// How many bytes are compared at once.
+const AT_ONCE: usize = 8;
+
+/// Whether texts of so many bytes are the same. All bytes are compared, so that none takes a branch.
 #[inline(always)]
+fn are_alike(front: &[u8], text: &[u8]) -> bool
+    requires front { length front.now ≡ AT_ONCE }
+    requires text { length text.now ≡ AT_ONCE }
+    ensures { result ≡ true → text.now ≡ front.now }
+{
+    let mut differs = false;
+    for place in 0..AT_ONCE {
+        differs |= front[place] != text[place];
+    }
+    !differs
+}
+
+/// Whether texts that are as long, of so many bytes at least, are the same.
+#[inline(always)]
+fn are_same(front: &[u8], text: &[u8]) -> bool
+    requires same { length text.now ≡ length front.now }
+    requires long { AT_ONCE ≤ length front.now }
+    ensures { result ≡ true → text.now ≡ front.now }
+{
+    let len = front.len();
+    let mut place = 0;
+    while len - place > AT_ONCE {
+        let next = place + AT_ONCE;
+        if !are_alike(&front[place..next], &text[place..next]) {
+            return false;
+        }
+        place = next;
+    }
+    // The last bytes may have been compared already.
+    are_alike(&front[len - AT_ONCE..], &text[len - AT_ONCE..])
+}
+
+/// What follows `front`, which has so many bytes at least, in a text that begins with it.
+#[inline(always)]
+fn behind_long<'t>(front: &[u8], text: &'t [u8]) -> Option<&'t [u8]>
+    ensures { IfSome result (λ rest. text.now ≡ front.now ++ rest.now) }
+{
+    let len = front.len();
+    if len < AT_ONCE || text.len() < len {
+        return None;
+    }
+    let (before, rest) = text.split_at(len);
+    if are_same(front, before) {
+        Some(rest)
+    } else {
+        None
+    }
+}
+
+/// What follows `front` in a text that begins with it.
 fn behind<'t>(front: &[u8], text: &'t [u8]) -> Option<&'t [u8]>
     ensures { IfSome result (λ rest. text.now ≡ front.now ++ rest.now) }
 {
@@ -185,43 +283,117 @@ fn head_in<'a>(last: &mut LastProbability<'a>, text: &'a [u8]) -> Option<Head<'a
     }
 }
 
-/// The extent of the targets of the error line that a text begins with, and what follows the line, where it begins as one
-/// before it. There is none where the line begins otherwise, is written in a rare way, or is refused.
+/// What was read last: how error lines began, the last first, and what the judge keeps.
+#[derive(Drop)]
+pub(crate) struct Recent<'a> {
+    pub last: Last<'a>,
+    head: Option<Head<'a>>,
+    other: Option<Head<'a>>,
+}
+
+impl<'a> Recent<'a> {
+    /// Nothing was read.
+    pub(crate) fn new() -> Self {
+        Recent {
+            last: Last::new(),
+            head: None,
+            other: None,
+        }
+    }
+}
+
+/// The arguments of the error line that a text begins with, and what follows its parentheses, where it begins as this one.
 #[inline(always)]
-fn error_alike<'t>(head: Option<Head<'_>>, text: &'t [u8]) -> Option<(Extent, &'t [u8])>
-    ensures { IfSome result (λ found. BeginsWithError text.now found.0 found.1.now) }
+fn begun<'a>(head: Option<Head<'a>>, text: &'a [u8]) -> Option<(&'a [u8], &'a [u8])>
+    ensures { IfSome result (λ found. BeginsWithHead text.now found.0.now found.1.now) }
 {
     let head = head?;
-    let targets = behind(head.beginning, text)?;
+    let rest = behind_long(head.beginning, text)?;
+    Some((head.arguments, rest))
+}
+
+/// The same where it doesn't begin as the last one.
+#[inline(never)]
+fn begun_other<'a>(recent: &mut Recent<'a>, text: &'a [u8]) -> Option<(&'a [u8], &'a [u8])>
+    ensures { IfSome result (λ found. BeginsWithHead text.now found.0.now found.1.now) }
+{
+    let other = recent.other;
+    if let Some(found) = begun(other, text) {
+        recent.other = recent.head;
+        recent.head = other;
+        return Some(found);
+    }
+    let head = head_in(&mut recent.last.probability, text)?;
+    recent.other = recent.head;
+    recent.head = Some(head);
+    begun(Some(head), text)
+}
+
+/// The same of any beginning that is accepted and written as most are.
+#[inline(always)]
+fn begun_first<'a>(recent: &mut Recent<'a>, text: &'a [u8]) -> Option<(&'a [u8], &'a [u8])>
+    ensures { IfSome result (λ found. BeginsWithHead text.now found.0.now found.1.now) }
+{
+    match begun(recent.head, text) {
+        Some(found) => Some(found),
+        None => begun_other(recent, text),
+    }
+}
+
+/// The extent of the targets of the error line that a text begins with, and what follows the line. There is none where the line
+/// is no error line, is written in a rare way, or is refused.
+#[inline(always)]
+pub(crate) fn error_first<'a>(recent: &mut Recent<'a>, text: &'a [u8]) -> Option<(Extent, &'a [u8])>
+    ensures { IfSome result (λ found. BeginsWithError text.now found.0 found.1.now) }
+{
+    let (_, targets) = begun_first(recent, text)?;
     let found = extent_in(targets)?;
     Some(found)
 }
 
-/// The same for an error line whose beginning is read anew.
-#[inline(never)]
-fn error_anew<'a>(
-    head: &mut Option<Head<'a>>,
-    last: &mut LastProbability<'a>,
+/// What the same error line says, with its targets in `targets`, in place of what that held.
+#[inline(always)]
+fn said_alike<'a, A: Allocator + Copy>(
+    recent: &mut Recent<'a>,
+    targets: &mut Vec<Target, A>,
     text: &'a [u8],
-) -> Option<(Extent, &'a [u8])>
-    ensures { IfSome result (λ found. BeginsWithError text.now found.0 found.1.now) }
+) -> Result<Option<(Said<'a, Operation>, &'a [u8])>, AllocError>
+    ensures { IfOk result (λ found. IfSome found (λ said. (depth number : ℕ)
+        → SaysFirst depth number text.now targets.new.items (Some said.0) said.1.now)) }
 {
-    let found = head_in(last, text)?;
-    *head = Some(found);
-    error_alike(Some(found), text)
+    let Some((arguments, rest)) = begun_first(recent, text) else {
+        return Ok(None);
+    };
+    let Some(after) = put_targets(targets, rest)? else {
+        return Ok(None);
+    };
+    let operation = Operation::PauliError;
+    Ok(Some((
+        Said::Accepts {
+            operation,
+            arguments,
+        },
+        after,
+    )))
 }
 
-/// The same for an error line that may begin as one before it, whose beginning is `head`.
-#[inline(always)]
-pub(crate) fn error_first<'a>(
-    head: &mut Option<Head<'a>>,
-    last: &mut LastProbability<'a>,
+/// What the first line of a text says, which is of this number, where so many blocks are open, with its targets in `targets`, in
+/// place of what that held; none where it says nothing. And what follows the line.
+pub(crate) fn said_first<'a, A: Allocator + Copy>(
+    recent: &mut Recent<'a>,
+    targets: &mut Vec<Target, A>,
+    depth: usize,
+    number: u64,
     text: &'a [u8],
-) -> Option<(Extent, &'a [u8])>
-    ensures { IfSome result (λ found. BeginsWithError text.now found.0 found.1.now) }
+) -> Result<(Option<Said<'a, Operation>>, &'a [u8]), AllocError>
+    requires { 0 < length text.now }
+    ensures { IfOk result (λ found. SaysFirst depth number text.now targets.new.items found.0
+        found.1.now) }
 {
-    match error_alike(*head, text) {
-        Some(found) => Some(found),
-        None => error_anew(head, last, text),
+    if let Some((said, after)) = said_alike(recent, targets, text)? {
+        return Ok((Some(said), after));
     }
+    let (line, after) = first_line(text);
+    let said = said_in(&mut recent.last, targets, depth, number, line)?;
+    Ok((said, after))
 }

@@ -18,19 +18,19 @@ ghost use Rattle.dem_text.specs.private.Lines.{BeginsWithError, IsReading, instr
 ghost use Rattle.dem_text.specs.private.Making.{HasFolded, HasKept, HasPassed, HasRead, HasRoomFor, HasTaken, IsReady, PassesFirst};
 ghost use Rattle.dem_text.specs.private.Unrolled.{few_of};
 
-use crate::brief::{Brief, Extent, brief_of, numbers_stated};
+use crate::brief::{Brief, Extent, brief_of, put_stated};
 use crate::counting::MOST_LINES;
-use crate::error_line::{Head, error_first};
+use crate::error_line::{Recent, error_first};
 use crate::fold::Fold;
 use crate::judge::{read_targets_again, said_in};
 use crate::kept::{Keep, Keeping, Kept, keep_lines};
 use crate::operation::Operation;
 use crate::standing::LineCounts;
 use crate::target::Target;
+use arrayvec::ArrayVec;
 use std::alloc::{AllocError, Allocator};
 use step_model::{Cause, Fault};
 use stim_lexer::{Said, first_line};
-use stim_parser::Last;
 
 /// What ended the reading of lines: there are no more; or the end of a block isn't there, which is refused so where nothing
 /// follows; or a line is refused.
@@ -39,13 +39,6 @@ pub(crate) enum End {
     Text,
     Open(Fault),
     Refused(Fault),
-}
-
-/// What is known of the lines of a text that were read last.
-#[derive(Drop)]
-struct Recent<'w> {
-    last: Last<'w>,
-    head: Option<Head<'w>>,
 }
 
 /// What follows a line, with the block that it opens, or what ended the reading there.
@@ -103,6 +96,7 @@ impl<'n, A: Allocator + Copy> Front<'n, A> {
             operation: Operation::PauliError,
             extent,
             amount: 0,
+            reach: 0,
         };
         if !self.fold.pass(&brief, &[]) {
             return Ok(());
@@ -140,10 +134,12 @@ impl<'n, A: Allocator + Copy> Front<'n, A> {
         if self.unrolled > MOST_LINES {
             return;
         }
-        let brief = brief_of(self.read + 1, operation, self.targets.as_slice());
-        let stated = numbers_stated(operation, arguments);
-        self.fold
-            .take(&brief, stated.as_slice(), self.targets.as_slice());
+        let mut numbers = ArrayVec::new();
+        put_stated(&mut numbers, operation, arguments);
+        let stated = numbers.as_slice();
+        let targets = self.targets.as_slice();
+        let brief = brief_of(self.read + 1, operation, targets, stated);
+        self.fold.take(&brief, stated, targets);
     }
 
     /// Takes the line that a text begins with, which is no block's, and whose targets were read.
@@ -199,7 +195,7 @@ impl<'n, A: Allocator + Copy> Front<'n, A> {
     /// Goes past the block that a text begins with; this follows its first line.
     fn pass_block<'w>(
         &mut self,
-        last: &mut Last<'w>,
+        recent: &mut Recent<'w>,
         iterations: u64,
         text: &'w [u8],
         line: &'w [u8],
@@ -215,7 +211,7 @@ impl<'n, A: Allocator + Copy> Front<'n, A> {
         let number = self.read + 1;
         let mut keeping = Keeping::new(self.alloc);
         keeping.take(number, Said::Opens(iterations), &[])?;
-        match keep_lines(keeping, last, &mut self.targets, false, number, after)? {
+        match keep_lines(keeping, recent, &mut self.targets, false, number, after)? {
             Keep::Closed(kept, rest, read) => {
                 self.take_kept(&kept, read, text, rest);
                 Ok(Passed::Behind(rest))
@@ -229,7 +225,7 @@ impl<'n, A: Allocator + Copy> Front<'n, A> {
     #[inline(never)]
     fn pass_any<'w>(
         &mut self,
-        last: &mut Last<'w>,
+        recent: &mut Recent<'w>,
         text: &'w [u8],
     ) -> Result<Passed<'w>, AllocError>
         requires some { 0 < length text.now }
@@ -238,7 +234,7 @@ impl<'n, A: Allocator + Copy> Front<'n, A> {
         ensures { IfOk result (λ passed. PassesFirst text.now passed self.old self.new) }
     {
         let (line, after) = first_line(text);
-        match said_in(last, &mut self.targets, 0, self.read + 1, line)? {
+        match said_in(&mut recent.last, &mut self.targets, 0, self.read + 1, line)? {
             None => {
                 self.read += 1;
                 Ok(Passed::Behind(after))
@@ -252,7 +248,7 @@ impl<'n, A: Allocator + Copy> Front<'n, A> {
                 self.take_line(operation, arguments, text, line, after);
                 Ok(Passed::Behind(after))
             }
-            Some(Said::Opens(iterations)) => self.pass_block(last, iterations, text, line, after),
+            Some(Said::Opens(iterations)) => self.pass_block(recent, iterations, text, line, after),
             Some(Said::Closes) => unreachable!(),
             Some(Said::Refuses(cause)) => Ok(Passed::Ended(End::Refused(Fault {
                 cause,
@@ -273,12 +269,12 @@ impl<'n, A: Allocator + Copy> Front<'n, A> {
         requires room { HasRoomFor self.old.read (length text.now) }
         ensures { IfOk result (λ passed. PassesFirst text.now passed self.old self.new) }
     {
-        match error_first(&mut recent.head, &mut recent.last.probability, text) {
+        match error_first(recent, text) {
             Some((extent, after)) => {
                 self.take_error(text, extent, after)?;
                 Ok(Passed::Behind(after))
             }
-            None => self.pass_any(&mut recent.last, text),
+            None => self.pass_any(recent, text),
         }
     }
 
@@ -289,10 +285,7 @@ impl<'n, A: Allocator + Copy> Front<'n, A> {
         requires room { HasRoomFor self.old.read (length text.now) }
         ensures { IfOk result (λ found. HasTaken text.now found.0.now found.1 self.old self.new) }
     {
-        let mut recent = Recent {
-            last: Last::new(),
-            head: None,
-        };
+        let mut recent = Recent::new();
         let mut rest = text;
         while !rest.is_empty() {
             match self.pass(&mut recent, rest)? {

@@ -17,8 +17,8 @@ use crate::target::{
     GREATEST_NUMBER, Target, TargetForm, are_of_form, is_target_beyond, read_targets,
 };
 use std::alloc::{AllocError, Allocator};
-use step_model::{Cause, Fault};
-use stim_lexer::{Lexer, Line, Said};
+use step_model::Cause;
+use stim_lexer::{Line, Said, cut_line};
 use stim_parser::{ArgumentForm, Causes, Judge, Keyword, Last};
 
 /// How often a block is repeated, or by how much detectors shift, by the targets of the line.
@@ -137,20 +137,6 @@ pub fn read_line<'a, A: Allocator + Copy>(
     )
 }
 
-/// A line, cut; none where it says nothing.
-fn line_in(text: &[u8]) -> Result<Option<Line<'_>>, Fault>
-    requires { list_any is_line_feed text.now ≡ false }
-    ensures { MatchResult result
-        (λ found. MatchOption found (says_nothing text.now ≡ true)
-        (λ line. (says_nothing text.now ≡ false) × (has_bad_byte text.now ≡ false)
-        × (cut_in line ≡ cut_of text.now)))
-        (λ fault. (says_nothing text.now ≡ false) × (has_bad_byte text.now ≡ true)
-        × (fault.cause ≡ cause.Byte)) }
-{
-    let mut lexer = Lexer::new(text);
-    lexer.next_line()
-}
-
 /// What the line of a number says where so many blocks are open, with its targets in `targets`, in place of what that held; none
 /// where it says nothing.
 pub(crate) fn said_in<'w, A: Allocator + Copy>(
@@ -165,8 +151,8 @@ pub(crate) fn said_in<'w, A: Allocator + Copy>(
         (λ said. (says_nothing line.now ≡ false)
         × IsReading depth number line.now (reading_in number said targets.new.items))) }
 {
-    match line_in(line) {
-        Ok(Some(cut)) => Ok(Some(read_line(last, targets, depth, Line { number, ..cut })?)),
+    match cut_line(number, line) {
+        Ok(Some(cut)) => Ok(Some(read_line(last, targets, depth, cut)?)),
         Ok(None) => Ok(None),
         Err(fault) => Ok(Some(Said::Refuses(fault.cause))),
     }
@@ -182,7 +168,7 @@ pub(crate) fn read_targets_again<A: Allocator + Copy>(
     ensures { IfOk result (λ _. targets.new.items ≡ read_targets (cut_of line.now).targets) }
 {
     targets.clear();
-    if let Ok(Some(cut)) = line_in(line) {
+    if let Ok(Some(cut)) = cut_line(0, line) {
         if !read_targets(targets, cut.targets)? {
             targets.clear();
         }

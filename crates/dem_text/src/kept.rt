@@ -1,7 +1,5 @@
 //! Lines that are kept, with their blocks: those of a block until it is closed, or of a whole text.
 ghost use Rattle.std.specs.Prelude.{◌≡◌, ◌⊎◌, ◌+◌, ◌<◌, ◌≤◌, ◌^◌, ℕ, false, true, List, [], Some, length, slice_get, IfOk, IfErr};
-ghost use Rattle.std.specs.List.{list_any};
-ghost use Rattle.stim_lexer.specs.Bytes.{is_line_feed};
 ghost use Rattle.cursor.specs.Moves.{GoesOver};
 ghost use Rattle.cursor.specs.Places.{AreNested, StandsIn, before_of, left_of};
 ghost use Rattle.flat_lists.specs.Short.{list_in};
@@ -18,15 +16,15 @@ ghost use Rattle.dem_text.specs.Verdicts.{Instruction};
 ghost use Rattle.dem_text.specs.private.Briefs.{IsBrief, IsKeptLine};
 ghost use Rattle.dem_text.specs.Fitting.{Fits};
 ghost use Rattle.dem_text.specs.Reached.{block_lines};
-ghost use Rattle.dem_text.specs.private.Folds.{Folded, Follows, IsSound, fold_over};
-ghost use Rattle.dem_text.specs.private.Keeping.{IsKeeping, KeepsLine};
+ghost use Rattle.dem_text.specs.private.Folds.{Folded, Follows, IsSound, fold_after, fold_over};
+ghost use Rattle.dem_text.specs.private.Keeping.{IsKeeping, KeepsFirst};
 ghost use Rattle.dem_text.specs.private.Making.{HasKeptLines, IsMaking};
 ghost use Rattle.dem_text.specs.private.Unrolled.{few_of};
 
-use crate::brief::{Brief, NO_LINE, brief_of, numbers_stated};
+use crate::brief::{Brief, NO_LINE, brief_of, put_stated};
 use crate::counting::Counting;
+use crate::error_line::{Recent, said_first};
 use crate::fold::Fold;
-use crate::judge::said_in;
 use crate::operation::Operation;
 use crate::target::Target;
 use arrayvec::ArrayVec;
@@ -35,8 +33,8 @@ use flat_lists::{FlatLists, Short, ShortList};
 use std::alloc::{AllocError, Allocator};
 use std::marker::Model;
 use step_model::{Cause, Fault};
-use stim_lexer::{Builder, Item, Items, Said, first_line};
-use stim_parser::{Last, MOST_ARGUMENTS};
+use stim_lexer::{Builder, Item, Items, Said};
+use stim_parser::MOST_ARGUMENTS;
 
 impl Short<Target> for Target {
     ghost long = { λ target. target };
@@ -82,13 +80,6 @@ impl<'a, A: Allocator + Copy> Model for Kept<'a, A> {
     ghost invariant = { λ k. AreKept k.items.items k.briefs.items k.stated };
 }
 
-/// What is known of a line, and the numbers that it states.
-#[derive(Drop)]
-struct Known {
-    brief: Brief,
-    stated: ArrayVec<i64, MOST_ARGUMENTS>,
-}
-
 /// A line that is kept: what is known of it, the numbers that it states, its targets, and the text in its parentheses.
 #[derive(Clone, Copy)]
 pub(crate) struct KeptLine<'k, 'a> {
@@ -98,24 +89,30 @@ pub(crate) struct KeptLine<'k, 'a> {
     pub arguments: &'a [u8],
 }
 
-/// What is known of the line of this number that says this, with these targets; of one that is no instruction nothing.
-fn known_in(line: u64, said: Said<'_, Operation>, targets: &[Target]) -> Known
+/// What is known of the line of this number that says this, with these targets; of one that is no instruction nothing. The numbers
+/// that it states are put into `stated`, in place of what that held.
+fn known_in(
+    stated: &mut ArrayVec<i64, MOST_ARGUMENTS>,
+    line: u64,
+    said: Said<'_, Operation>,
+    targets: &[Target],
+) -> Brief
     requires { (depth : ℕ) × ReadingFits Fits depth (reading_in line said targets.now) }
     ensures { (i : Instruction) → reading_in line said.entry targets.now ≡ Accepts i
-        → IsBrief i result.brief result.stated.items }
+        → IsBrief i result stated.new.items }
 {
     match said {
         Said::Accepts {
             operation,
             arguments,
-        } => Known {
-            brief: brief_of(line, operation, targets),
-            stated: numbers_stated(operation, arguments),
-        },
-        _ => Known {
-            brief: NO_LINE,
-            stated: ArrayVec::new(),
-        },
+        } => {
+            put_stated(stated, operation, arguments);
+            brief_of(line, operation, targets, stated.as_slice())
+        }
+        _ => {
+            stated.clear();
+            NO_LINE
+        }
     }
 }
 
@@ -171,9 +168,10 @@ impl<'a, A: Allocator + Copy> Keeping<'a, A> {
         if let Said::Refuses(cause) = said {
             return Ok(Some(cause));
         }
-        let known = known_in(line, said, targets);
-        self.briefs.push(known.brief)?;
-        self.stated.push(known.stated.as_slice())?;
+        let mut stated = ArrayVec::new();
+        let brief = known_in(&mut stated, line, said, targets);
+        self.briefs.push(brief)?;
+        self.stated.push(stated.as_slice())?;
         self.builder.take(line, said, 0, targets)
     }
 
@@ -210,24 +208,28 @@ pub(crate) enum Keep<'a, A: Allocator + Copy> {
     Refused(Fault),
 }
 
-/// Reads a line of this number. Answers the cause where it is refused.
+/// Reads the first line of a text, which is of this number. Answers the cause where it is refused, and what follows the line.
 fn keep_line<'a, A: Allocator + Copy>(
     keeping: &mut Keeping<'a, A>,
-    last: &mut Last<'a>,
+    recent: &mut Recent<'a>,
     targets: &mut Vec<Target, A>,
     number: u64,
-    line: &'a [u8],
-) -> Result<Option<Cause>, AllocError>
+    text: &'a [u8],
+) -> Result<(Option<Cause>, &'a [u8]), AllocError>
     requires kept { IsKeeping keeping.old }
-    requires one { list_any is_line_feed line.now ≡ false }
-    ensures kept { IfOk result (λ refused. IsKeeping keeping.new) }
-    ensures line { IfOk result (λ refused. KeepsLine number line.now refused keeping.old.builder.text
-        keeping.new.builder.text) }
+    requires some { 0 < length text.now }
+    ensures kept { IfOk result (λ found. IsKeeping keeping.new) }
+    ensures line { IfOk result (λ found. KeepsFirst number text.now found.1.now found.0
+        keeping.old.builder.text keeping.new.builder.text) }
 {
     let depth = keeping.depth();
-    match said_in(last, targets, depth, number, line)? {
-        Some(said) => keeping.take(number, said, targets.as_slice()),
-        None => Ok(None),
+    let (said, after) = said_first(recent, targets, depth, number, text)?;
+    match said {
+        Some(said) => {
+            let refused = keeping.take(number, said, targets.as_slice())?;
+            Ok((refused, after))
+        }
+        None => Ok((None, after)),
     }
 }
 
@@ -243,7 +245,7 @@ fn goes_on(rest: &[u8], whole: bool, depth: usize) -> bool
 /// Reads lines behind others: to the end of the block that is open, or, where `whole` is so, to the end of the text.
 pub(crate) fn keep_lines<'a, A: Allocator + Copy>(
     mut keeping: Keeping<'a, A>,
-    last: &mut Last<'a>,
+    recent: &mut Recent<'a>,
     targets: &mut Vec<Target, A>,
     whole: bool,
     read: u64,
@@ -259,9 +261,9 @@ pub(crate) fn keep_lines<'a, A: Allocator + Copy>(
     let mut rest = text;
     let mut number = read;
     while goes_on(rest, whole, keeping.depth()) {
-        let (line, after) = first_line(rest);
         number += 1;
-        if let Some(cause) = keep_line(&mut keeping, last, targets, number, line)? {
+        let (refused, after) = keep_line(&mut keeping, recent, targets, number, rest)?;
+        if let Some(cause) = refused {
             return Ok(Keep::Refused(Fault {
                 cause,
                 line: number,
@@ -314,6 +316,24 @@ impl<'a, A: Allocator + Copy> Kept<'a, A> {
         cursor.next(&self.items)
     }
 
+    /// Takes a fold past the line at a place, where an instruction stands. Its targets are looked up only where they are turned.
+    #[inline(always)]
+    fn take_at(&self, fold: &mut Fold<'_, A>, place: usize)
+        requires some { (i : Instruction) × (slice_get self.now place ≡ Some (InstructionLine i)) }
+        requires sound { IsSound fold.old.standing }
+        requires few { fold.old.standing.passed + 1 < 2 ^ 64 }
+        ensures follows { (named : List ℕ) (f : Folded) (i : Instruction)
+            → Follows named f fold.old
+            → slice_get self.now place ≡ Some (InstructionLine i)
+            → Follows named (fold_after named f i) fold.new }
+        ensures sound { IsSound fold.new.standing }
+        ensures passed { fold.new.standing.passed ≤ fold.old.standing.passed + 1 }
+    {
+        if fold.pass(&self.briefs[place], self.stated.get(place)) {
+            fold.turn(self.line(place).targets);
+        }
+    }
+
     /// Takes a fold over the lines as they are reached.
     pub(crate) fn go_over(&self, fold: &mut Fold<'_, A>)
         requires nested { AreNested self.now }
@@ -328,8 +348,7 @@ impl<'a, A: Allocator + Copy> Kept<'a, A> {
     {
         let mut cursor = self.start();
         while let Some(place) = self.next(&mut cursor) {
-            let line = self.line(place);
-            fold.take(&line.brief, line.stated, line.targets);
+            self.take_at(fold, place);
         }
     }
 

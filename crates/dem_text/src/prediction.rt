@@ -13,6 +13,7 @@ ghost use Rattle.dem_text.specs.private.Making.{HasRoomFor, IsReady};
 use crate::front::{End, Front};
 use crate::standing::{LineCounts, MOST_DETECTORS};
 use bit_rows::BitRow;
+use memchr::memrchr;
 use std::alloc::{AllocError, Allocator};
 use step_model::{Fault, Source};
 use stim_lexer::cut_at;
@@ -72,14 +73,11 @@ fn end_of_lines(text: &[u8], from: usize) -> usize
     ensures within { result ≤ length text.now }
     ensures whole { IsWholeFront result text.now }
 {
-    let mut end = text.len();
-    while end > from {
-        if text[end - 1] == b'\n' {
-            return end;
-        }
-        end -= 1;
+    let from = from.min(text.len());
+    match memrchr(b'\n', &text[from..]) {
+        Some(place) => from + place + 1,
+        None => 0,
     }
-    0
 }
 
 /// Takes so many bytes off the front of a text.

@@ -16,6 +16,7 @@ ghost use Rattle.dem_text.specs.private.Ended.{HasCounts, IsKeptModel};
 
 use crate::brief::is_error;
 use crate::coordinates::coordinates_of;
+use crate::error_line::Recent;
 use crate::flips::read_flipped;
 use crate::front::Front;
 use crate::kept::{Keep, Keeping, Kept, KeptLine, keep_lines};
@@ -23,7 +24,7 @@ use crate::standing::{LineCounts, Shift};
 use error_models::Model;
 use std::alloc::{AllocError, Allocator};
 use step_model::Fault;
-use stim_parser::{Last, first_argument};
+use stim_parser::first_argument;
 
 /// Room for a line's targets, by their numbers.
 #[derive(Drop)]
@@ -140,9 +141,16 @@ fn kept_in<'a, A: Allocator + Copy>(alloc: A, text: &'a [u8]) -> Result<Kept<'a,
     ensures few { IfOk result (λ kept. length kept ≤ length text.now) }
     ensures err { IfErr result (λ fault. (fault ≡ memory_fault) ⊎ (items_in text.now ≡ Err fault)) }
 {
-    let mut last = Last::new();
+    let mut recent = Recent::new();
     let mut targets = Vec::new(alloc);
-    match keep_lines(Keeping::new(alloc), &mut last, &mut targets, true, 0, text)? {
+    match keep_lines(
+        Keeping::new(alloc),
+        &mut recent,
+        &mut targets,
+        true,
+        0,
+        text,
+    )? {
         Keep::Closed(kept, _, _) => Ok(kept),
         Keep::Open(fault) | Keep::Refused(fault) => Err(fault),
     }

@@ -1,6 +1,7 @@
 //! How far a model is read: by how much detectors are shifted and coordinates moved, the counts so far, and the first line with a
 //! number that is beyond its limit.
-ghost use Rattle.std.specs.Prelude.{◌≡◌, ◌+◌, ◌<◌, ◌≤◌, ◌^◌, All, None, false, true, if◌then◌else◌, not, nat_abs, nat_lt, MatchOption, ◌+ℤ◌, [], length};
+ghost use Rattle.std.specs.Prelude.{◌≡◌, ◌+◌, ◌<◌, ◌≤◌, ◌^◌, All, ℤ, List, None, false, true, if◌then◌else◌, not, nat_abs, nat_lt, MatchOption, ◌+ℤ◌, [], length};
+ghost use Rattle.stim_lexer.specs.Reached.{greatest_by};
 ghost use Rattle.std.specs.List.{list_any};
 ghost use Rattle.stim_parser.specs.Offsets.{moved, shifted};
 ghost use Rattle.dem_text.specs.Meanings.{is_error};
@@ -9,7 +10,7 @@ ghost use Rattle.dem_text.specs.Shifts.{no_shift, placed_at, shift_after};
 ghost use Rattle.dem_text.specs.Verdicts.{Instruction};
 ghost use Rattle.dem_text.specs.private.Briefs.{IsBrief, IsSomeBrief};
 ghost use Rattle.dem_text.specs.private.Folds.{IsSound, counts_past, stand_after};
-ghost use Rattle.dem_text.specs.private.Offsets.{AreSmall, HasRoom, beyond_stated, number_at};
+ghost use Rattle.dem_text.specs.private.Offsets.{AreSmall, HasRoom, beyond_stated, number_at, padded};
 ghost use Rattle.dem_text.specs.private.Tables.{coordinates_from, count_at, most_detectors};
 
 use crate::brief::{Brief, is_error};
@@ -24,14 +25,19 @@ use stim_parser::MOST_ARGUMENTS;
 pub(crate) struct Shift {
     pub detectors: u128,
     pub offset: ArrayVec<i128, MOST_ARGUMENTS>,
+    // No axis is moved by more.
+    reach: u128,
 }
 
 impl Model for Shift {
+    ghost use Rattle.std.specs.Prelude.{◌≤◌, All, nat_abs};
     ghost use Rattle.dem_text.specs.Shifts.{Shift};
 
     ghost Value = { Shift };
 
     ghost view = { λ s. record { detectors = s.detectors; offset = s.offset.items } };
+
+    ghost invariant = { λ s. All (λ o. nat_abs o ≤ s.reach) s.offset.items };
 }
 
 /// The number at a place of an offset, 0 past its end.
@@ -65,19 +71,50 @@ pub(crate) fn sum_at(offset: &[i128], stated: &[i64], place: usize) -> i128
     offset_at(offset, place) + stated_at(stated, place) as i128
 }
 
-/// An offset with the numbers that a line states added.
-fn offset_past(offset: &[i128], stated: &[i64]) -> ArrayVec<i128, MOST_ARGUMENTS>
-    requires axes { length offset.now ≤ MOST_ARGUMENTS }
-    requires few { length stated.now ≤ MOST_ARGUMENTS }
-    requires room { All (λ o. nat_abs o + beyond_stated < 2 ^ 127) offset.now }
-    requires small { AreSmall stated.now }
-    ensures { result.items ≡ shifted offset.now stated.now }
+/// The same at a place where both have one.
+#[inline(always)]
+fn sum_inside(offset: &[i128], stated: &[i64], place: usize) -> i128
+    requires offset { place < length offset.now }
+    requires stated { place < length stated.now }
+    requires room { nat_abs (number_at offset.now place) + beyond_stated < 2 ^ 127 }
+    requires small { nat_abs (number_at stated.now place) < beyond_stated }
+    ensures { result ≡ number_at offset.now place +ℤ number_at stated.now place }
 {
-    let mut sum = ArrayVec::new();
-    for place in 0..offset.len().max(stated.len()) {
-        sum.push(sum_at(offset, stated, place));
+    offset[place] + stated[place] as i128
+}
+
+/// Lengthens an offset to at least so many axes.
+fn lengthen(offset: &mut ArrayVec<i128, MOST_ARGUMENTS>, axes: usize)
+    requires { axes ≤ MOST_ARGUMENTS }
+    ensures { offset.new.items ≡ padded axes offset.old.items }
+{
+    while offset.len() < axes {
+        offset.push(0);
     }
-    sum
+}
+
+/// Adds the numbers that a line states to an offset that has as many axes.
+fn add_all(offset: &mut [i128], stated: &[i64])
+    requires few { length stated.now ≤ length offset.old }
+    requires room { All (λ o. nat_abs o + beyond_stated < 2 ^ 127) offset.old }
+    requires small { AreSmall stated.now }
+    ensures added { offset.new ≡ shifted offset.old stated.now }
+    ensures long { length offset.new ≡ length offset.old }
+{
+    for place in 0..stated.len() {
+        offset[place] = sum_inside(offset, stated, place);
+    }
+}
+
+/// Adds the numbers that a line states to an offset.
+fn add_stated(offset: &mut ArrayVec<i128, MOST_ARGUMENTS>, stated: &[i64])
+    requires few { length stated.now ≤ MOST_ARGUMENTS }
+    requires room { All (λ o. nat_abs o + beyond_stated < 2 ^ 127) offset.old.items }
+    requires small { AreSmall stated.now }
+    ensures { offset.new.items ≡ shifted offset.old.items stated.now }
+{
+    lengthen(offset, stated.len());
+    add_all(offset.as_mut_slice(), stated);
 }
 
 impl Shift {
@@ -88,10 +125,21 @@ impl Shift {
         Shift {
             detectors: 0,
             offset: ArrayVec::new(),
+            reach: 0,
         }
     }
 
+    /// Whether numbers of this magnitude at most are sure to be within the limit of coordinates once they are moved.
+    #[inline(always)]
+    fn keeps_near(&self, reach: u64) -> bool
+        ensures { result ≡ true → (stated : List ℤ) → reach ≡ greatest_by nat_abs stated
+            → list_any is_coordinate_beyond (moved self.now.offset stated) ≡ false }
+    {
+        self.reach.saturating_add(reach as u128) <= GREATEST_NUMBER as u128
+    }
+
     /// Takes the shift past a line that states these numbers.
+    #[inline(always)]
     pub(crate) fn pass(&mut self, line: &Brief, stated: &[i64])
         requires known { IsSomeBrief line.now stated.now }
         requires room { HasRoom self.old 1 }
@@ -100,7 +148,8 @@ impl Shift {
     {
         match line.operation {
             Operation::Shifts => {
-                self.offset = offset_past(self.offset.as_slice(), stated);
+                add_stated(&mut self.offset, stated);
+                self.reach = self.reach.saturating_add(line.reach as u128);
                 self.detectors += line.amount as u128;
             }
             _ => {}
@@ -165,16 +214,23 @@ fn are_near(offset: &[i128], stated: &[i64]) -> bool
     true
 }
 
-/// The same of the coordinates that a line of this kind gives, which states these.
+/// The same of the coordinates that a line gives, which states these.
 #[inline(always)]
-fn gives_near(offset: &[i128], operation: Operation, stated: &[i64]) -> bool
-    requires room { All (λ o. nat_abs o + beyond_stated < 2 ^ 127) offset.now }
+fn gives_near(shift: &Shift, line: &Brief, stated: &[i64]) -> bool
+    requires room { All (λ o. nat_abs o + beyond_stated < 2 ^ 127) shift.now.offset }
     requires small { AreSmall stated.now }
-    ensures { result
-        ≡ not (list_any is_coordinate_beyond (coordinates_from operation stated.now offset.now)) }
+    requires reach { line.now.reach ≡ greatest_by nat_abs stated.now }
+    ensures { result ≡ not (list_any is_coordinate_beyond
+        (coordinates_from line.now.operation stated.now shift.now.offset)) }
 {
-    match operation {
-        Operation::DetectorDeclaration => are_near(offset, stated),
+    match line.operation {
+        Operation::DetectorDeclaration => {
+            // Coordinates are seldom near their limit.
+            if shift.keeps_near(line.reach) {
+                return true;
+            }
+            are_near(shift.offset.as_slice(), stated)
+        }
         _ => true,
     }
 }
@@ -207,7 +263,7 @@ impl LineCounts {
         let Some(detectors) = shifted(shift.detectors, line.extent.detectors) else {
             return None;
         };
-        if !gives_near(shift.offset.as_slice(), line.operation, stated) {
+        if !gives_near(shift, line, stated) {
             return None;
         }
         Some(LineCounts {

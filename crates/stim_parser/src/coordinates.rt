@@ -1,32 +1,12 @@
-ghost use Rattle.std.specs.Prelude.{◌≡◌, ◌≤◌, None, Some, length, map, option_map, MatchBool};
+ghost use Rattle.std.specs.Prelude.{◌≡◌, None, Some, option_map, MatchBool};
 ghost use Rattle.stim_parser.specs.Arguments.{arguments_in};
 ghost use Rattle.stim_parser.specs.Coordinates.{coordinates_in, first_number};
-ghost use Rattle.stim_parser.specs.Numbers.{whole_value};
 
 use crate::arguments::{MOST_ARGUMENTS, first_argument};
 use crate::digits::number_of;
-use crate::numbers::{GREATEST_COORDINATE, magnitude_of};
-use crate::whole_numbers::{are_beyond, has_minus, put_whole_numbers, signed};
+use crate::numbers::GREATEST_COORDINATE;
+use crate::whole_numbers::{are_beyond, put_whole_numbers};
 use arrayvec::ArrayVec;
-
-/// The value of a whole number, with its sign.
-fn whole_value(text: &[u8]) -> i64
-    ensures { result ≡ whole_value text.now }
-{
-    signed(has_minus(text), magnitude_of(text))
-}
-
-/// The value of each whole number, in their order.
-pub fn whole_values(texts: &[&[u8]]) -> ArrayVec<i64, MOST_ARGUMENTS>
-    requires { length texts.now ≤ MOST_ARGUMENTS }
-    ensures { result.items ≡ map (λ text. whole_value text.now) texts.now }
-{
-    let mut values = ArrayVec::new();
-    for text in texts {
-        values.push(whole_value(*text));
-    }
-    values
-}
 
 /// Puts all arguments in the text of some parentheses, as coordinates, in place of what was there. Answers whether they are at
 /// most 16 whole numbers within the limit.

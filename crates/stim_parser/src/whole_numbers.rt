@@ -15,7 +15,7 @@ use stim_lexer::after_blanks;
 
 /// Whether a text begins with a `-`.
 #[inline(always)]
-pub(crate) fn has_minus(text: &[u8]) -> bool
+fn has_minus(text: &[u8]) -> bool
     ensures { result ≡ has_minus text.now }
 {
     matches!(text, [b'-', ..])
@@ -23,7 +23,7 @@ pub(crate) fn has_minus(text: &[u8]) -> bool
 
 /// A magnitude with its sign.
 #[inline(always)]
-pub(crate) fn signed(negative: bool, magnitude: u64) -> i64
+fn signed(negative: bool, magnitude: u64) -> i64
     requires { magnitude ≤ 1_000_000_000_000_000_000 }
     ensures { result ≡ (if negative then neg_ℤ (pos magnitude) else pos magnitude) }
 {
@@ -45,7 +45,7 @@ fn whole_number_of(text: &[u8]) -> Option<i64>
 
 /// Puts all arguments in the text of some parentheses in place of what was there. Answers whether they are at most 16 whole
 /// numbers.
-pub(crate) fn put_whole_numbers(found: &mut ArrayVec<i64, MOST_ARGUMENTS>, text: &[u8]) -> bool
+pub fn put_whole_numbers(found: &mut ArrayVec<i64, MOST_ARGUMENTS>, text: &[u8]) -> bool
     ensures { MatchBool result
         ((has_wrong_arguments WholeNumbers (arguments_in text.now) ≡ false)
         × (found.new.items ≡ map whole_value (arguments_in text.now)))

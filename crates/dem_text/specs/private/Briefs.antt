@@ -1,5 +1,6 @@
 -- What is known of a line, however often it is reached.
-use Rattle.std.specs.Prelude.{◌≡◌, ⊤, ℕ, ℤ, List}
+use Rattle.std.specs.Prelude.{◌≡◌, ⊤, ℕ, ℤ, List, nat_abs}
+use Rattle.stim_lexer.specs.Reached.{greatest_by}
 use Rattle.stim_parser.specs.Arguments.{arguments_in}
 use Rattle.dem_text.specs.declared.brief.Brief.{Brief}
 use Rattle.dem_text.specs.declared.kept.KeptLine.{KeptLine}
@@ -20,6 +21,7 @@ pub record IsBrief (i : Instruction) (brief : Brief) (stated : List ℤ) : Type 
   pub operation_is : brief.operation ≡ i.operation
   pub known : IsKnown i brief.extent stated
   pub amount_is : IsAmount i.operation brief.amount i.targets
+  pub reach_is : brief.reach ≡ greatest_by nat_abs stated
 
 -- of some instruction
 pub record IsSomeBrief (brief : Brief) (stated : List ℤ) : Type 0 where

@@ -2,7 +2,7 @@
 -- digits. They are read straight from the bytes; the general reader, which reads all others, reads the same of these.
 -- (Stim's detector error model format, github.com/quantumlib/Stim, doc/file_format_dem_detector_error_model.md, "Target
 -- Types".)
-use Rattle.std.specs.Prelude.{◌≡◌, ◌⊎◌, ℕ, ◌==◌, ◌||◌, max, Bool, true, false, List, [], ◌∷◌, ◌++◌, Some}
+use Rattle.std.specs.Prelude.{◌≡◌, ◌⊎◌, ℕ, ◌==◌, ◌||◌, Bool, true, false, List, [], ◌∷◌, ◌++◌, Some}
 use Rattle.std.specs.Char.{is_ascii_digit}
 use Rattle.std.specs.Int.{is_in_range}
 use Rattle.std.specs.List.{list_all}
@@ -40,24 +40,36 @@ pub record IsTargetFront (text : List ℕ) (target : Target) (rest : List ℕ) :
   pub target_is : target_of word ≡ Some target
   pub effect : is_effect target ≡ true
 
--- targets that an error may have, none beyond its limit, and by these `counts` become `found`
-pub record AreCounted (text : List ℕ) (counts found : Extent) : Type 0 where
+-- targets that an error may have, none beyond its limit
+pub record AreListed (text : List ℕ) (targets : List Target) : Type 0 where
   pub apart : ends_here text ≡ true
   pub quiet : list_all is_quiet text ≡ true
-  pub targets : List Target
   pub read : targets_in text ≡ Some targets
   pub effects : list_all is_effect targets ≡ true
   pub within : has_target_beyond targets ≡ false
-  pub detectors : found.detectors ≡ max counts.detectors (greatest_by detectors_to targets)
-  pub observables : found.observables ≡ max counts.observables (greatest_by observables_to targets)
 
 -- a line ends where a text begins
 abbrev pub ends_line : List ℕ → Bool
 ends_line [] = true
 ends_line (b ∷ text) = b == 10
 
--- a text begins with such targets, and after them its line ends: this is their extent, and what follows the line
-pub record BeginsWithTargets (text : List ℕ) (extent : Extent) (after : List ℕ) : Type 0 where
-  pub targets : List ℕ
-  pub counted : AreCounted targets (record { detectors = 0; observables = 0 }) extent
-  pub parts : ((text ≡ targets) × (after ≡ [])) ⊎ (text ≡ targets ++ 10 ∷ after)
+-- what follows the line that ends where a text begins
+abbrev pub IsBehindEnd : List ℕ → List ℕ → Type 0
+IsBehindEnd text after = ((text ≡ []) × (after ≡ [])) ⊎ (text ≡ 10 ∷ after)
+
+-- a text begins with such targets, and after them its line ends: this follows the line
+pub record BeginsWithTargets (text : List ℕ) (targets : List Target) (after : List ℕ) : Type 0 where
+  pub front : List ℕ
+  pub listed : AreListed front targets
+  pub parts : ((text ≡ front) × (after ≡ [])) ⊎ (text ≡ front ++ 10 ∷ after)
+
+-- the extent of targets
+pub record IsExtent (targets : List Target) (extent : Extent) : Type 0 where
+  pub detectors : extent.detectors ≡ greatest_by detectors_to targets
+  pub observables : extent.observables ≡ greatest_by observables_to targets
+
+-- a text begins with such targets, and this is their extent
+pub record BeginsWithExtent (text : List ℕ) (extent : Extent) (after : List ℕ) : Type 0 where
+  pub targets : List Target
+  pub begins : BeginsWithTargets text targets after
+  pub extent_is : IsExtent targets extent

@@ -1,6 +1,7 @@
 -- Lines that are kept: the items that they say, and what is known of each instruction among these.
 use Rattle.std.specs.Prelude.{⊤, ◌≡◌, ◌⊎◌, ℕ, ℤ, false, true, List, [], ◌∷◌, Option, None}
 use Rattle.step_model.specs.declared.fault.Cause.{Cause}
+use Rattle.stim_lexer.specs.FirstLines.{IsFirstLine}
 use Rattle.stim_lexer.specs.Lines.{says_nothing}
 use Rattle.stim_lexer.specs.Texts.{line_reading}
 use Rattle.stim_lexer.specs.Trees.{InstructionLine, BlockStart, BlockEnd}
@@ -36,3 +37,9 @@ pub record HasSpoken (number : ℕ) (line : List ℕ) (refused : Option Cause) (
 abbrev pub KeepsLine : ℕ → List ℕ → Option Cause → Unfinished Instruction → Unfinished Instruction → Type 0
 KeepsLine number line refused u u' =
     ((says_nothing line ≡ true) × (refused ≡ None) × (u' ≡ u)) ⊎ HasSpoken number line refused u u'
+
+-- the same of the first line of a text, behind which this follows
+pub record KeepsFirst (number : ℕ) (text after : List ℕ) (refused : Option Cause) (u u' : Unfinished Instruction) : Type 0 where
+  pub line : List ℕ
+  pub first : IsFirstLine text line after
+  pub keeps : KeepsLine number line refused u u'

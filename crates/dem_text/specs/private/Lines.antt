@@ -1,6 +1,12 @@
 -- What one line of an error model's text says. (Stim's detector error model format, github.com/quantumlib/Stim,
 -- doc/file_format_dem_detector_error_model.md.)
-use Rattle.std.specs.Prelude.{◌≡◌, ℕ, false, List, [], length, unwrap_or}
+use Rattle.std.specs.Prelude.{◌≡◌, ℕ, false, true, List, [], ◌∷◌, ◌++◌, Option, MatchOption, codes, length, unwrap_or}
+use Rattle.std.specs.List.{list_all}
+use Rattle.stim_lexer.specs.declared.said.Said.{Said}
+use Rattle.stim_lexer.specs.Said.{reading_in}
+use Rattle.stim_parser.specs.declared.forms.ArgumentForm.TheVariants.{OneProbability}
+use Rattle.stim_parser.specs.Probabilities.{AreProbabilities}
+use Rattle.dem_text.specs.private.ErrorTexts.{is_quiet}
 use Rattle.stim_lexer.specs.Cut.{Cut, cut_of, has_bad_byte}
 use Rattle.stim_lexer.specs.FirstLines.{IsFirstLine}
 use Rattle.stim_lexer.specs.Lines.{says_nothing}
@@ -49,6 +55,18 @@ pub record BeginsWithError (text : List ℕ) (extent : Extent) (after : List ℕ
   pub line : List ℕ
   pub first : IsFirstLine text line after
   pub error : IsErrorLine line extent
+
+-- a text begins as an error line with these arguments, which are accepted, and behind its parentheses this follows
+pub record BeginsWithHead (text arguments rest : List ℕ) : Type 0 where
+  pub text_is : text ≡ codes "error(" ++ (arguments ++ 41 ∷ rest)
+  pub quiet : list_all is_quiet arguments ≡ true
+  pub right : AreProbabilities OneProbability (arguments_in arguments)
+
+-- the first line of a text, of this number and where so many blocks are open, says nothing, or it says this, with these targets
+pub record SaysFirst (depth number : ℕ) (text : List ℕ) (targets : List Target) (found : Option (Said Operation)) (after : List ℕ) : Type 0 where
+  pub line : List ℕ
+  pub first : IsFirstLine text line after
+  pub says : MatchOption found (says_nothing line ≡ true) (λ said. (says_nothing line ≡ false) × IsReading depth number line (reading_in number said targets))
 
 -- the instruction of a line of this number, of which this was read
 abbrev pub instruction_read : ℕ → Operation → List ℕ → List Target → Instruction

@@ -1,6 +1,6 @@
 -- How the shift of a line's coordinates is summed, and what 128 bits have room for. (Stim's detector error model format,
 -- github.com/quantumlib/Stim, doc/file_format_dem_detector_error_model.md, "shift_detectors".)
-use Rattle.std.specs.Prelude.{ℕ, ◌+◌, ◌*◌, ◌<◌, ◌^◌, nat_abs, ℤ, pos, List, All, slice_index_or}
+use Rattle.std.specs.Prelude.{ℕ, ◌+◌, ◌-◌, ◌*◌, ◌<◌, ◌^◌, nat_abs, ℤ, pos, List, ◌++◌, length, replicate, All, slice_index_or}
 use Rattle.dem_text.specs.Shifts.{Shift}
 
 -- the number at a place, 0 past the end
@@ -18,3 +18,7 @@ AreSmall numbers = All (λ n. nat_abs n < beyond_stated) numbers
 pub record HasRoom (s : Shift) (lines : ℕ) : Type 0 where
   pub detectors : s.detectors + beyond_stated * lines < 2 ^ 127
   pub offset : All (λ o. nat_abs o + beyond_stated * lines < 2 ^ 127) s.offset
+
+-- lengthened with zeros to at least so many axes
+abbrev pub padded : ℕ → List ℤ → List ℤ
+padded axes offset = offset ++ replicate (axes - length offset) (pos 0)

@@ -1,12 +1,9 @@
-use Rattle.std.proofs.Common.{◌<◌, length}
+use Rattle.std.proofs.Common.{◌<◌}
 use Rattle.dem_text.specs.private.ErrorTexts.{IsNumberFront}
 use Rattle.dem_text.proofs.error_line.front_number.Given as goal
 
-abbrev pub invariant-loop-digit : goal.invariant-loop-digit
-invariant-loop-digit l = record {
+abbrev pub invariant-loop : goal.invariant-loop
+invariant-loop l = record {
   front : IsNumberFront l.fn.text l.number l.rest;
-  few : l.number < 10_000_000_000;
+  few : l.number < 1_000_000;
 }
-
-abbrev pub decreases-loop-digit : goal.decreases-loop-digit
-decreases-loop-digit l = length l.rest

@@ -7,7 +7,6 @@ use Rattle.dem_text.specs.Texts.{models}
 use Rattle.dem_text.specs.Verdicts.{Instruction}
 use Rattle.dem_text.specs.private.Lines.{IsReading}
 use Rattle.dem_text.proofs.KeepingLemmas.{reading-fits}
-use Rattle.dem_text.proofs.ReadLemmas.{both-ok}
 use Rattle.dem_text.proofs.kept.keep_line.Goals as goal
 
 -- what was read is what the line says
@@ -17,23 +16,34 @@ said line number depth opened reading reading' h d e = λ other same. e ∙ h ot
 pub take-requires-clause-fits : goal.take-requires-clause-fits
 take-requires-clause-fits g c =
     let opened = c.args.keeping.now.builder.text.opened in
-    let found = rw c.in-Some.is at c.in_ok-said.ensures in
-    reading-fits opened c.args.number c.args.line.now (reading_in c.args.number c.in-Some.said c.as_slice.result.now)
-    (said c.args.line.now c.args.number c.depth-depth.result opened _ _ found.1 c.depth-depth.ensures (ap (λ (ts : List Target). reading_in c.args.number c.in-Some.said ts) c.as_slice.ensures.value))
+    let first = c.in_ok-said.ensures in
+    let found = rw c.in-Some.is at first.says in
+    reading-fits opened c.args.number first.line (reading_in c.args.number c.in-Some.said c.as_slice.result.now)
+    (said first.line c.args.number c.depth-depth.result opened _ _ found.1 c.depth-depth.ensures (ap (λ (ts : List Target). reading_in c.args.number c.in-Some.said ts) c.as_slice.ensures.value))
 
-pub returns-in-Some : goal.returns-in-Some
-returns-in-Some g c =
+pub returns-in_ok-refused-in-Some-clause-line : goal.returns-in_ok-refused-in-Some-clause-line
+returns-in_ok-refused-in-Some-clause-line g c =
     let u = c.args.keeping.now.builder.text in
-    let found = rw c.in-Some.is at c.in_ok-said.ensures in
+    let first = c.in_ok-said.ensures in
+    let found = rw c.in-Some.is at first.says in
     let reading = reading_in c.args.number c.in-Some.said c.as_slice.result.now in
-    let is : reading ≡ line_reading models u.opened c.args.number c.args.line.now =
+    let is : reading ≡ line_reading models u.opened c.args.number first.line =
     ap (λ (ts : List Target). reading_in c.args.number c.in-Some.said ts) c.as_slice.ensures.value ∙ found.1 u.opened (sym c.depth-depth.ensures) in
     record {
-      kept = c.take.ensures.kept;
-      line = both-ok _ _ _
-          (λ refused because after. inr (record { speaks = found.0; refused_is = because ∙ ap cause_in is; after_is = after ∙ ap (λ (r : Reading Instruction). after_line c.args.number r u) is }))
-          c.take.result c.take.ensures.refused c.take.ensures.after;
+      line = first.line;
+      first = first.first;
+      keeps =
+          inr (record {
+            speaks = found.0;
+            refused_is = c.in_ok-refused-in-Some.ensures.refused ∙ ap cause_in is;
+            after_is = c.in_ok-refused-in-Some.ensures.after ∙ ap (λ (r : Reading Instruction). after_line c.args.number r u) is;
+          });
     }
 
 pub returns-in-None : goal.returns-in-None
-returns-in-None g c = record { kept = c.requires.kept; line = inl (rw c.in-None.is at c.in_ok-said.ensures, refl, refl) }
+returns-in-None g c =
+    let first = c.in_ok-said.ensures in
+    record {
+      kept = c.requires.kept;
+      line = record { line = first.line; first = first.first; keeps = inl (rw c.in-None.is at first.says, refl, refl) };
+    }

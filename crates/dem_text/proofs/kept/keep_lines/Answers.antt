@@ -9,25 +9,27 @@ use Rattle.dem_text.specs.private.Making.{HasKept, IsMaking}
 use Rattle.dem_text.proofs.MakingLemmas.{IsKeepingOn, keeping-line, keeping-none, keeping-open, keeping-refused, some-open}
 use Rattle.dem_text.proofs.kept.keep_lines.Goals as goal
 
-pub loop-rest-init : goal.loop-rest-init
-loop-rest-init g c = record { kept = c.requires.kept; going = keeping-none c.args.text.now c.args.read c.args.keeping.builder.text }
+pub loop-number-init : goal.loop-number-init
+loop-number-init g c = record { kept = c.requires.kept; going = keeping-none c.args.text.now c.args.read c.args.keeping.builder.text }
 
 pub returns-in-Some : goal.returns-in-Some
 returns-in-Some g c =
-    let u = c.loop-rest.keeping.builder.text in
+    let u = c.loop-number.keeping.builder.text in
     let u' = c.keep_line.new.keeping.builder.text in
-    keeping-refused c.args.text.now c.loop-rest.rest.now c.first_line.result.0.now c.first_line.result.1.now c.args.read c.loop-rest.number c.args.keeping.builder.text u u' c.loop-rest.invariant.going c.first_line.ensures c.in-Some.cause
-    (subst (λ (o : Option Cause). KeepsLine (c.loop-rest.number + 1) c.first_line.result.0.now o u u') c.in-Some.is c.in_ok-cause.ensures.line)
+    let first = c.in_ok-refused.ensures.line in
+    keeping-refused c.args.text.now c.loop-number.rest.now first.line c.in_ok-refused.after.now c.args.read c.loop-number.number c.args.keeping.builder.text u u' c.loop-number.invariant.going first.first c.in-Some.cause
+    (subst (λ (o : Option Cause). KeepsLine (c.loop-number.number + 1) first.line o u u') c.in-Some.is first.keeps)
 
-pub loop-rest-preserved : goal.loop-rest-preserved
-loop-rest-preserved g c =
-    let u = c.loop-rest.keeping.builder.text in
+pub loop-number-preserved : goal.loop-number-preserved
+loop-number-preserved g c =
+    let u = c.loop-number.keeping.builder.text in
     let u' = c.keep_line.new.keeping.builder.text in
+    let first = c.in_ok-refused.ensures.line in
     record {
-      kept = c.in_ok-cause.ensures.kept;
+      kept = c.in_ok-refused.ensures.kept;
       going =
-          keeping-line c.args.text.now c.loop-rest.rest.now c.first_line.result.0.now c.first_line.result.1.now c.args.read c.loop-rest.number c.args.keeping.builder.text u u' c.loop-rest.invariant.going c.first_line.ensures
-          (subst (λ (o : Option Cause). KeepsLine (c.loop-rest.number + 1) c.first_line.result.0.now o u u') c.in_default.is c.in_ok-cause.ensures.line);
+          keeping-line c.args.text.now c.loop-number.rest.now first.line c.in_ok-refused.after.now c.args.read c.loop-number.number c.args.keeping.builder.text u u' c.loop-number.invariant.going first.first
+          (subst (λ (o : Option Cause). KeepsLine (c.loop-number.number + 1) first.line o u u') c.in_default.is first.keeps);
     }
 
 -- what is kept where no block is open
@@ -53,12 +55,12 @@ all_read rest whole depth (inr p) some = absurd (some p.1)
 
 pub returns-in-Ok : goal.returns-in-Ok
 returns-in-Ok g c count before m e = (
-  kept c.args.text.now c.loop-rest.rest.now c.args.read c.loop-rest.number c.args.keeping.builder.text c.loop-rest.keeping.builder.text c.in-Ok.kept c.loop-rest.invariant.going c.in-Ok.ensures.opened c.in-Ok.ensures.items count before m e,
-  whole_read c.loop-rest.rest.now c.args.whole c.depth.result (c.goes_on.ensures.ended c.loop-rest-test.false),
+  kept c.args.text.now c.loop-number.rest.now c.args.read c.loop-number.number c.args.keeping.builder.text c.loop-number.keeping.builder.text c.in-Ok.kept c.loop-number.invariant.going c.in-Ok.ensures.opened c.in-Ok.ensures.items count before m e,
+  whole_read c.loop-number.rest.now c.args.whole c.depth.result (c.goes_on.ensures.ended c.loop-number-test.false),
 )
 
 pub returns-in-Err : goal.returns-in-Err
 returns-in-Err g c =
-    let opened = c.loop-rest.keeping.builder.text.opened in
-    let none = all_read c.loop-rest.rest.now c.args.whole c.depth.result (c.goes_on.ensures.ended c.loop-rest-test.false) (λ e. some-open opened c.in-Err.fault c.in-Err.ensures.err (sym c.depth.ensures ∙ e)) in
-    keeping-open c.args.text.now c.loop-rest.rest.now c.args.read c.loop-rest.number c.args.keeping.builder.text c.loop-rest.keeping.builder.text c.in-Err.fault c.loop-rest.invariant.going none c.in-Err.ensures.err
+    let opened = c.loop-number.keeping.builder.text.opened in
+    let none = all_read c.loop-number.rest.now c.args.whole c.depth.result (c.goes_on.ensures.ended c.loop-number-test.false) (λ e. some-open opened c.in-Err.fault c.in-Err.ensures.err (sym c.depth.ensures ∙ e)) in
+    keeping-open c.args.text.now c.loop-number.rest.now c.args.read c.loop-number.number c.args.keeping.builder.text c.loop-number.keeping.builder.text c.in-Err.fault c.loop-number.invariant.going none c.in-Err.ensures.err

@@ -12,8 +12,8 @@ use Rattle.dem_text.proofs.front.Front.fold_error.Goals as goal
 
 -- what is known of an error line
 known : (number : ℕ) (line : List ℕ) (extent : Extent) → IsErrorLine line extent
-    → IsBrief (instruction_cut number PauliError (cut_of line)) (record { line = number; operation = PauliError; extent = extent; amount = 0 }) []
-known number line extent h = record { line_is = refl; operation_is = refl; known = h.known number; amount_is = tt }
+    → IsBrief (instruction_cut number PauliError (cut_of line)) (record { line = number; operation = PauliError; extent = extent; amount = 0; reach = 0 }) []
+known number line extent h = record { line_is = refl; operation_is = refl; known = h.known number; amount_is = tt; reach_is = refl }
 
 pub pass-requires-clause-known : goal.pass-requires-clause-known
 pass-requires-clause-known g c =
@@ -31,7 +31,7 @@ returns-then-not-pass-clause-folded g c line first =
     let same : line ≡ begins.line = first.cut ∙ sym begins.first.cut in
     let number = c.args.self.now.read + 1 in
     let i = instruction_cut number PauliError (cut_of line) in
-    let brief = subst (λ (l : List ℕ). IsBrief (instruction_cut number PauliError (cut_of l)) (record { line = number; operation = PauliError; extent = c.args.extent; amount = 0 }) []) (sym same) (known number begins.line c.args.extent begins.error) in
+    let brief = subst (λ (l : List ℕ). IsBrief (instruction_cut number PauliError (cut_of l)) (record { line = number; operation = PauliError; extent = c.args.extent; amount = 0; reach = 0 }) []) (sym same) (known number begins.line c.args.extent begins.error) in
     folded-one i c.args.self.now _ c.if-self-gt-MOST_LINES.false
     (λ named f h.
     let passed = c.pass.ensures.follows named f i h brief in
@@ -44,7 +44,7 @@ returns-clause-folded g c line first =
     let same : line ≡ begins.line = first.cut ∙ sym begins.first.cut in
     let number = c.args.self.now.read + 1 in
     let i = instruction_cut number PauliError (cut_of line) in
-    let brief = subst (λ (l : List ℕ). IsBrief (instruction_cut number PauliError (cut_of l)) (record { line = number; operation = PauliError; extent = c.args.extent; amount = 0 }) []) (sym same) (known number begins.line c.args.extent begins.error) in
+    let brief = subst (λ (l : List ℕ). IsBrief (instruction_cut number PauliError (cut_of l)) (record { line = number; operation = PauliError; extent = c.args.extent; amount = 0; reach = 0 }) []) (sym same) (known number begins.line c.args.extent begins.error) in
     let here : c.first_line.result.0.now ≡ line = c.first_line.ensures.cut ∙ sym first.cut in
     folded-one i c.args.self.now _ c.if-self-gt-MOST_LINES.false
     (λ named f h.

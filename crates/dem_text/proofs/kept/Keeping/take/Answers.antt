@@ -13,11 +13,11 @@ returns g c =
     let old = c.args.self.now in
     let reading = reading_in c.args.line c.args.said c.args.targets.now in
     let text' = after_line c.args.line reading old.builder.text in
-    let briefs = old.briefs.items ++ c.known_in-known.result.brief ∷ [] in
-    let stated = old.stated ++ c.known_in-known.result.stated.items ∷ [] in
+    let briefs = old.briefs.items ++ c.known_in-brief.result ∷ [] in
+    let stated = old.stated ++ c.known_in-brief.new.stated.items ∷ [] in
     let kept : AreKept text'.items briefs stated =
-    said-push c.args.line (length old.builder.text.opened) reading old.builder.text.items old.briefs.items old.stated c.known_in-known.result.brief c.known_in-known.result.stated.items c.requires.kept
-    c.known_in-known.ensures (not-refused c.args.line c.args.said c.args.targets.now (λ d e. c.in_default.not-Refuses d e)) in
+    said-push c.args.line (length old.builder.text.opened) reading old.builder.text.items old.briefs.items old.stated c.known_in-brief.result c.known_in-brief.new.stated.items c.requires.kept
+    c.known_in-brief.ensures (not-refused c.args.line c.args.said c.args.targets.now (λ d e. c.in_default.not-Refuses d e)) in
     let bs : c.push.new.self.items ≡ briefs = c.in_ok-push.ensures.items in
     let ns : c.push-2.new.self ≡ stated = c.in_ok-push-2.ensures.ok ∙ ap (λ (l : List ℤ). old.stated ++ l ∷ []) c.as_slice.ensures.value in
     record {

@@ -4,23 +4,17 @@ use Rattle.dem_text.specs.private.Folds.{Folded, Follows, fold_over}
 use Rattle.dem_text.proofs.FoldLemmas.{fold-both}
 use Rattle.dem_text.proofs.kept.Kept.go_over.Goals as goal
 
-pub take-requires-clause-known : goal.take-requires-clause-known
-take-requires-clause-known g c =
-    let over = c.in-Some.ensures.over in
-    record { instruction = over.0; brief_is = (c.line-line.ensures over.0 over.1).brief_is }
-
 pub loop-place-preserved : goal.loop-place-preserved
 loop-place-preserved g c =
     let over = c.in-Some.ensures.over in
     let x = over.0 in
-    let line = c.line-line.ensures x over.1 in
     let before = before_of c.args.self.now c.loop-place.cursor in
     let after : before_of c.args.self.now c.next.new.cursor ≡ before ++ x ∷ [] = over.2.before in
     record {
       place = c.in-Some.ensures.place;
       follows = λ named f h.
-          subst (λ (f' : Folded). Follows named f' c.take.new.self) (sym (ap (fold_over named f) after ∙ fold-both named f before (x ∷ [])))
-          (c.take.ensures.follows named (fold_over named f before) x (c.loop-place.invariant.follows named f h) line.brief_is line.targets_are);
-      sound = c.take.ensures.sound;
-      passed = let p = c.loop-place.invariant.passed in omega (arith, p, c.take.ensures.passed, ap length after, length-append before (x ∷ []));
+          subst (λ (f' : Folded). Follows named f' c.take_at.new.fold) (sym (ap (fold_over named f) after ∙ fold-both named f before (x ∷ [])))
+          (c.take_at.ensures.follows named (fold_over named f before) x (c.loop-place.invariant.follows named f h) over.1);
+      sound = c.take_at.ensures.sound;
+      passed = let p = c.loop-place.invariant.passed in omega (arith, p, c.take_at.ensures.passed, ap length after, length-append before (x ∷ []));
     }

@@ -1,10 +1,8 @@
-use Rattle.std.proofs.Common.{List, get_or, length, ap, subst, sym, ◌∙◌, arith}
+use Rattle.std.proofs.Common.{List, length, ap, ◌∙◌, arith}
 use Rattle.std.specs.Prelude.{slice_get}
-use Rattle.dem_text.specs.declared.brief.Brief.{Brief}
 use Rattle.dem_text.specs.Texts.{Item}
 use Rattle.dem_text.specs.Verdicts.{Instruction}
-use Rattle.dem_text.specs.private.Briefs.{IsBrief}
-use Rattle.dem_text.proofs.KeepingLemmas.{got-within, handed-is, kept-at, kept-long}
+use Rattle.dem_text.proofs.KeepingLemmas.{got-within, handed-is, kept-brief, kept-long}
 use Rattle.dem_text.proofs.kept.Kept.line.Goals as goal
 
 pub index-requires : goal.index-requires
@@ -27,10 +25,7 @@ returns g c i got =
     let here = ap (λ (is : List Item). slice_get is c.args.place) c.self.view_is ∙ got in
     let same = handed-is items c.args.place i c.in-InstructionLine.instruction c.in-InstructionLine.ensures.item here in
     record {
-      brief_is =
-          subst (λ (b : Brief). IsBrief i b c.get-in-InstructionLine.result.now) (sym c.index.ensures)
-          (subst (IsBrief i (get_or c.self.inside.briefs.items c.args.place c.index.result.now)) (sym c.get-in-InstructionLine.ensures.value)
-          (kept-at items c.self.inside.briefs.items c.self.inside.stated c.args.place i c.index.result.now c.self.invariant here));
+      brief_is = kept-brief items c.self.inside.briefs.items c.self.inside.stated c.args.place i c.index.result.now c.index.result.now c.get-in-InstructionLine.result.now c.self.invariant here c.index.ensures c.get-in-InstructionLine.ensures.value;
       targets_are = c.all_of.ensures ∙ ap (λ (j : Instruction). j.targets) same;
       arguments_are = ap (λ (j : Instruction). j.arguments) same;
     }
