@@ -45,7 +45,7 @@ fn front_number(text: &[u8]) -> Option<(u32, &[u8])>
 {
     let mut number: u32 = 0;
     let mut rest = text;
-    // At a count that is known the loop takes no test of it.
+    // A loop of so few turns is unrolled: then a digit takes no test of how many there were.
     for _ in 0..MOST_DIGITS {
         let Some((digit, after)) = front_digit(rest) else {
             return if rest.len() < text.len() {
@@ -132,7 +132,8 @@ fn extent_in(text: &[u8]) -> Option<(Extent, &[u8])>
     Some((found, behind_end(rest)))
 }
 
-/// Puts the same targets into `targets`, in place of what it held, and answers what follows the line.
+/// Puts the targets of an error line that a text begins with into `targets`, in place of what it held, and answers what follows the
+/// line. It answers nothing where a target is written in a rare way, or is refused.
 fn put_targets<'t, A: Allocator + Copy>(
     targets: &mut Vec<Target, A>,
     text: &'t [u8],
@@ -312,7 +313,7 @@ fn begun<'a>(head: Option<Head<'a>>, text: &'a [u8]) -> Option<(&'a [u8], &'a [u
     Some((head.arguments, rest))
 }
 
-/// The same where it doesn't begin as the last one.
+/// Its arguments, and what follows its parentheses, where it begins as the one before the last, or in a way that is accepted anew.
 #[inline(never)]
 fn begun_other<'a>(recent: &mut Recent<'a>, text: &'a [u8]) -> Option<(&'a [u8], &'a [u8])>
     ensures { IfSome result (λ found. BeginsWithHead text.now found.0.now found.1.now) }
@@ -329,7 +330,7 @@ fn begun_other<'a>(recent: &mut Recent<'a>, text: &'a [u8]) -> Option<(&'a [u8],
     begun(Some(head), text)
 }
 
-/// The same of any beginning that is accepted and written as most are.
+/// Its arguments, and what follows its parentheses, where they are accepted and written as most are.
 #[inline(always)]
 fn begun_first<'a>(recent: &mut Recent<'a>, text: &'a [u8]) -> Option<(&'a [u8], &'a [u8])>
     ensures { IfSome result (λ found. BeginsWithHead text.now found.0.now found.1.now) }
@@ -351,7 +352,8 @@ pub(crate) fn error_first<'a>(recent: &mut Recent<'a>, text: &'a [u8]) -> Option
     Some(found)
 }
 
-/// What the same error line says, with its targets in `targets`, in place of what that held.
+/// What the error line says that a text begins with, with its targets in `targets`, in place of what that held, and what follows the
+/// line. There is nothing where the line is no error line, is written in a rare way, or is refused.
 #[inline(always)]
 fn said_alike<'a, A: Allocator + Copy>(
     recent: &mut Recent<'a>,

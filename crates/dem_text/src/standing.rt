@@ -25,7 +25,7 @@ use stim_parser::MOST_ARGUMENTS;
 pub(crate) struct Shift {
     pub detectors: u128,
     pub offset: ArrayVec<i128, MOST_ARGUMENTS>,
-    // No axis is moved by more.
+    // No axis is moved by more, in either direction.
     reach: u128,
 }
 
@@ -71,7 +71,7 @@ pub(crate) fn sum_at(offset: &[i128], stated: &[i64], place: usize) -> i128
     offset_at(offset, place) + stated_at(stated, place) as i128
 }
 
-/// The same at a place where both have one.
+/// The sum of the numbers at a place where an offset and what a line states have one.
 #[inline(always)]
 fn sum_inside(offset: &[i128], stated: &[i64], place: usize) -> i128
     requires offset { place < length offset.now }
@@ -214,7 +214,7 @@ fn are_near(offset: &[i128], stated: &[i64]) -> bool
     true
 }
 
-/// The same of the coordinates that a line gives, which states these.
+/// Whether all coordinates that a line gives, which states these, are within their limit once they are moved.
 #[inline(always)]
 fn gives_near(shift: &Shift, line: &Brief, stated: &[i64]) -> bool
     requires room { All (λ o. nat_abs o + beyond_stated < 2 ^ 127) shift.now.offset }
