@@ -18,6 +18,7 @@ use Rattle.dem_text.specs.Verdicts.{model_table}
 use Rattle.dem_text.specs.declared.brief.Extent.{Extent}
 use Rattle.dem_text.specs.private.ErrorTexts.{AreListed, BeginsWithExtent, BeginsWithTargets, IsExtent, is_quiet}
 use Rattle.stim_lexer.specs.FirstLines.{IsFirstLine}
+use Rattle.stim_lexer.specs.Lines.{says_nothing}
 use Rattle.dem_text.specs.private.Lines.{BeginsWithError, BeginsWithHead, IsErrorLine, IsReading, SaysFirst, instruction_cut, read_targets}
 use Rattle.dem_text.specs.Texts.{models}
 use Rattle.stim_lexer.specs.declared.said.Said.TheVariants as said
@@ -87,6 +88,7 @@ module _ (arguments text : List ℕ) (targets : List Target) (quiet : list_all i
       record {
         speaks = record { speaks = cut.speaks; good = cut.good };
         known = λ number. subst (λ (c : Cut). IsKnown (instruction_cut number PauliError c) extent []) (sym cut.cut_is) (known_found number arguments text targets extent h.within x (list_is text targets h));
+        listed = (targets, ap (λ (c : Cut). targets_in c.targets) cut.cut_is ∙ h.read);
         taken = λ number opened. taken number opened ∙ ap (λ (c : Cut). Accepts (instruction_cut number PauliError c)) (sym cut.cut_is);
       }
 
@@ -117,6 +119,22 @@ first_of text line after some one (inr e) =
       parts = λ more. refl;
       less = omega (arith, long);
     })
+
+-- a line of no bytes
+pub empty-first : (text after : List ℕ) → text ≡ 10 ∷ after → IsFirstLine text [] after
+empty-first text after e =
+    rw e
+    (record {
+      lines = lines_of-cut (10 ∷ after) [] (10 ∷ after) after (omega arith) refl refl refl;
+      cut = refl;
+      one = refl;
+      parts = λ more. refl;
+      less = omega arith;
+    })
+
+pub empty-silent : says_nothing [] ≡ true
+unfolding says_nothing
+empty-silent = refl
 
 -- the line that begins so
 begins_with : (text arguments rest front after : List ℕ) (targets : List Target) → BeginsWithHead text arguments rest → AreListed front targets → ((rest ≡ front) × (after ≡ [])) ⊎ (rest ≡ front ++ 10 ∷ after)

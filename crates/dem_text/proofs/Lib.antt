@@ -21,6 +21,7 @@ pub mod ModelInstructions
 pub mod NearLemmas
 pub mod NumberLemmas
 pub mod OverKept
+pub mod PartLemmas
 pub mod PassedLemmas
 pub mod PredictedLemmas
 pub mod ProgramLemmas

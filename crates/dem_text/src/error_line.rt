@@ -248,7 +248,7 @@ fn behind_head<'t>(arguments: &[u8], text: &'t [u8]) -> Option<&'t [u8]>
 }
 
 /// A text up to what it ends with.
-fn up_to<'t>(text: &'t [u8], rest: &[u8]) -> &'t [u8]
+pub(crate) fn up_to<'t>(text: &'t [u8], rest: &[u8]) -> &'t [u8]
     requires { length rest.now ≤ length text.now }
     ensures { (front : List ℕ) → text.now ≡ front ++ rest.now → result.now ≡ front }
 {

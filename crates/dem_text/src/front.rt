@@ -1,7 +1,9 @@
 //! The front of a model's text, read line by line: a line outside blocks is judged, taken and forgotten, and the lines of an
 //! outermost block are kept until it is closed.
-ghost use Rattle.std.specs.Prelude.{◌≡◌, ◌⊎◌, ◌+◌, ◌<◌, ◌≤◌, ◌^◌, ℕ, false, List, [], ◌∷◌, length, IfOk};
+ghost use Rattle.std.specs.Prelude.{◌≡◌, ◌==◌, ◌⊎◌, ◌+◌, ◌<◌, ◌≤◌, ◌^◌, ℕ, false, List, [], ◌∷◌, ◌++◌, Some, length, IfOk};
+ghost use Rattle.std.specs.List.{before_first};
 ghost use Rattle.std.specs.List.Sorted.{IsStrictlyIncreasing};
+ghost use Rattle.stim_lexer.specs.Bytes.{from_first};
 ghost use Rattle.stim_lexer.specs.Cut.{cut_of};
 ghost use Rattle.stim_lexer.specs.FirstLines.{IsFirstLine};
 ghost use Rattle.stim_lexer.specs.Fitting.{IsWritten};
@@ -15,22 +17,25 @@ ghost use Rattle.dem_text.specs.Fitting.{Fits};
 ghost use Rattle.dem_text.specs.Reached.{block_lines};
 ghost use Rattle.dem_text.specs.private.Ended.{IsVerdict};
 ghost use Rattle.dem_text.specs.private.Lines.{BeginsWithError, IsReading, instruction_cut, instruction_read};
+ghost use Rattle.dem_text.specs.Targets.{targets_in};
+ghost use Rattle.dem_text.specs.private.Folds.{HasTurned};
+ghost use Rattle.dem_text.specs.private.ErrorTexts.{IsApart};
 ghost use Rattle.dem_text.specs.private.Making.{HasFolded, HasKept, HasPassed, HasRead, HasRoomFor, HasTaken, IsReady, PassesFirst};
 ghost use Rattle.dem_text.specs.private.Unrolled.{few_of};
 
 use crate::brief::{Brief, Extent, brief_of, put_stated};
 use crate::counting::MOST_LINES;
-use crate::error_line::{Recent, error_first};
+use crate::error_line::{Recent, behind_byte, error_first, up_to};
 use crate::fold::Fold;
-use crate::judge::{read_targets_again, said_in};
+use crate::judge::{said_in, targets_of};
 use crate::kept::{Keep, Keeping, Kept, keep_lines};
 use crate::operation::Operation;
 use crate::standing::LineCounts;
-use crate::target::Target;
+use crate::target::{Target, read_targets};
 use arrayvec::ArrayVec;
 use std::alloc::{AllocError, Allocator};
 use step_model::{Cause, Fault};
-use stim_lexer::{Said, first_line};
+use stim_lexer::{Said, cut_at, first_line};
 
 /// What ended the reading of lines: there are no more; or the end of a block isn't there, which is refused so where nothing
 /// follows; or a line is refused.
@@ -59,6 +64,30 @@ pub(crate) struct Front<'n, A: Allocator + Copy> {
     pub targets: Vec<Target, A>,
 }
 
+/// So many bytes of targets are read again at a time.
+const PART: usize = 65536;
+
+/// The parts of a text before its first space, and from there on.
+fn cut_at_space(text: &[u8]) -> (&[u8], &[u8])
+    ensures before { result.0.now ≡ before_first (λ b. b == 32) text.now }
+    ensures after { result.1.now ≡ from_first (λ b. b == 32) text.now }
+    ensures len { length result.0.now + length result.1.now ≡ length text.now }
+{
+    cut_at(text, b' ')
+}
+
+/// So many bytes that a text of targets begins with, up to a space, and what follows them.
+fn part_of(text: &[u8]) -> (&[u8], &[u8])
+    requires { 0 < length text.now }
+    ensures text { text.now ≡ result.0.now ++ result.1.now }
+    ensures apart { IsApart result.1.now }
+    ensures less { length result.1.now < length text.now }
+{
+    let least = text.len().min(PART);
+    let (_, after) = cut_at_space(&text[least..]);
+    (up_to(text, after), after)
+}
+
 impl<'n, A: Allocator + Copy> Front<'n, A> {
     /// Before the first line, where the error lines of these numbers are named, with so many bits.
     pub(crate) fn new(alloc: A, named: &'n [usize], places: usize) -> Result<Self, AllocError>
@@ -73,6 +102,23 @@ impl<'n, A: Allocator + Copy> Front<'n, A> {
             fold: Fold::new(alloc, named, places)?,
             targets: Vec::new(alloc),
         })
+    }
+
+    /// Flips the bits of the targets of a text, whose line was passed. They are read again, some at a time.
+    fn turn_text(&mut self, text: &[u8]) -> Result<(), AllocError>
+        requires { (targets : List Target) × (targets_in text.now ≡ Some targets) }
+        ensures turned { IfOk result (λ _. HasTurned text.now self.old.fold self.new.fold) }
+        ensures read { self.new.read ≡ self.old.read }
+        ensures unrolled { self.new.unrolled ≡ self.old.unrolled }
+    {
+        let mut rest = text;
+        while !rest.is_empty() {
+            let (some, after) = part_of(rest);
+            read_targets(&mut self.targets, some)?;
+            self.fold.turn(self.targets.as_slice());
+            rest = after;
+        }
+        Ok(())
     }
 
     /// Takes the fold past the error line that a text begins with, whose targets have this extent.
@@ -102,8 +148,7 @@ impl<'n, A: Allocator + Copy> Front<'n, A> {
             return Ok(());
         }
         let (line, _) = first_line(text);
-        read_targets_again(&mut self.targets, line)?;
-        self.fold.turn(self.targets.as_slice());
+        self.turn_text(targets_of(line))?;
         Ok(())
     }
 
@@ -274,7 +319,13 @@ impl<'n, A: Allocator + Copy> Front<'n, A> {
                 self.take_error(text, extent, after)?;
                 Ok(Passed::Behind(after))
             }
-            None => self.pass_any(recent, text),
+            None => match behind_byte(b'\n', text) {
+                Some(after) => {
+                    self.read += 1;
+                    Ok(Passed::Behind(after))
+                }
+                None => self.pass_any(recent, text),
+            },
         }
     }
 

@@ -10,7 +10,7 @@ ghost use Rattle.step_model.specs.declared.fault.Cause.TheVariants as cause;
 ghost use Rattle.stim_lexer.specs.Bytes.{is_line_feed};
 ghost use Rattle.stim_lexer.specs.Cut.{cut_of, has_bad_byte};
 ghost use Rattle.stim_lexer.specs.Lines.{says_nothing};
-ghost use Rattle.dem_text.specs.private.Lines.{IsReading, Speaks, read_targets};
+ghost use Rattle.dem_text.specs.private.Lines.{IsReading, Speaks};
 
 use crate::operation::{Operation, keyword_named};
 use crate::target::{
@@ -158,20 +158,13 @@ pub(crate) fn said_in<'w, A: Allocator + Copy>(
     }
 }
 
-/// Puts the targets of a line that was accepted into `targets`, in place of what it held.
-pub(crate) fn read_targets_again<A: Allocator + Copy>(
-    targets: &mut Vec<Target, A>,
-    line: &[u8],
-) -> Result<(), AllocError>
-    requires one { list_any is_line_feed line.now ≡ false }
-    requires speaks { Speaks line.now }
-    ensures { IfOk result (λ _. targets.new.items ≡ read_targets (cut_of line.now).targets) }
+/// The text of the targets of a line that was accepted.
+pub(crate) fn targets_of(line: &[u8]) -> &[u8]
+    requires { Speaks line.now }
+    ensures { result.now ≡ (cut_of line.now).targets }
 {
-    targets.clear();
-    if let Ok(Some(cut)) = cut_line(0, line) {
-        if !read_targets(targets, cut.targets)? {
-            targets.clear();
-        }
+    match cut_line(0, line) {
+        Ok(Some(cut)) => cut.targets,
+        _ => unreachable!(),
     }
-    Ok(())
 }

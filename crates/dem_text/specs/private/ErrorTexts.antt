@@ -73,3 +73,7 @@ pub record BeginsWithExtent (text : List ℕ) (extent : Extent) (after : List �
   pub targets : List Target
   pub begins : BeginsWithTargets text targets after
   pub extent_is : IsExtent targets extent
+
+-- nothing, or a text that begins with a space
+abbrev pub IsApart : List ℕ → Type 0
+IsApart text = (text ≡ []) ⊎ ((later : List ℕ) × (text ≡ 32 ∷ later))

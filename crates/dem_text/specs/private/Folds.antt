@@ -11,6 +11,7 @@ use Rattle.dem_text.specs.Models.{is_beyond}
 use Rattle.dem_text.specs.NamedLines.{is_among}
 use Rattle.dem_text.specs.Shifts.{Placed, Shift, no_shift, placed_at, shift_after, shifted_target}
 use Rattle.dem_text.specs.Verdicts.{Instruction}
+use Rattle.dem_text.specs.private.Lines.{read_targets}
 use Rattle.dem_text.specs.private.Numbered.{numbers_of}
 use Rattle.dem_text.specs.private.Offsets.{HasRoom}
 use Rattle.dem_text.specs.private.Tables.{most_detectors}
@@ -100,3 +101,9 @@ fold_start places =
       standing = record { shift = no_shift; counts = record { detectors = 0; observables = 0; errors = 0 }; passed = 0; beyond = None };
       bits = replicate places false;
     }
+
+-- the bits of the targets of a text were turned, and nothing else changed
+pub record HasTurned {A : Type 0} (text : List ℕ) (old new : Fold A) : Type 0 where
+  pub bits : new.bits ≡ turned old.bits (numbers_of most_detectors (map (shifted_target old.standing.shift.detectors) (read_targets text)))
+  pub standing : new.standing ≡ old.standing
+  pub later : new.later.now ≡ old.later.now

@@ -1,6 +1,6 @@
 -- What one line of an error model's text says. (Stim's detector error model format, github.com/quantumlib/Stim,
 -- doc/file_format_dem_detector_error_model.md.)
-use Rattle.std.specs.Prelude.{◌≡◌, ℕ, false, true, List, [], ◌∷◌, ◌++◌, Option, MatchOption, codes, length, unwrap_or}
+use Rattle.std.specs.Prelude.{◌≡◌, ℕ, false, true, List, [], ◌∷◌, ◌++◌, Option, Some, MatchOption, codes, length, unwrap_or}
 use Rattle.std.specs.List.{list_all}
 use Rattle.stim_lexer.specs.declared.said.Said.{Said}
 use Rattle.stim_lexer.specs.Said.{reading_in}
@@ -48,6 +48,7 @@ pub record Speaks (line : List ℕ) : Type 0 where
 pub record IsErrorLine (line : List ℕ) (extent : Extent) : Type 0 where
   pub speaks : Speaks line
   pub known : (number : ℕ) → IsKnown (instruction_cut number PauliError (cut_of line)) extent []
+  pub listed : (targets : List Target) × (targets_in (cut_of line).targets ≡ Some targets)
   pub taken : (number : ℕ) (opened : List ℕ) → line_reading models opened number line ≡ Accepts (instruction_cut number PauliError (cut_of line))
 
 -- the first line of a text is one, and after it this follows
