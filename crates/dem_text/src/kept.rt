@@ -334,7 +334,8 @@ impl<'a, A: Allocator + Copy> Kept<'a, A> {
         }
     }
 
-    /// Takes a fold over the lines as they are reached.
+    /// Takes a fold over the lines as they are reached. It stands apart, so that its loop has the registers to itself.
+    #[inline(never)]
     pub(crate) fn go_over(&self, fold: &mut Fold<'_, A>)
         requires nested { AreNested self.now }
         requires sound { IsSound fold.old.standing }

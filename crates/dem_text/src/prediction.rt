@@ -21,6 +21,9 @@ use stim_lexer::cut_at;
 /// How many bytes a source is asked for at a time.
 const PIECE: usize = 65536;
 
+/// The lines of a text are taken once it has so many bytes, since each time takes what was read last anew.
+const ENOUGH: usize = 16384;
+
 /// A source is given up once it has handed out so many lines.
 const MOST_READ: u64 = 1 << 62;
 
@@ -170,7 +173,7 @@ impl<'n, A: Allocator + Copy> Gathering<'n, A> {
             → IsGathered named old new self.new) }
         ensures ready { IfOk result (λ _. IsReady self.new.front) }
     {
-        if self.text.len() < self.least {
+        if self.text.len() < self.least.max(ENOUGH) {
             return Ok(());
         }
         if self.least > 0 && !has_brace(self.text.as_slice()) {
