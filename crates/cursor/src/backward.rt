@@ -11,15 +11,14 @@ ghost use Rattle.cursor.specs.private.Marks.{IsMark};
 use crate::blocks::{body_before, end_behind};
 use crate::cursor::{Cursor, Level};
 use crate::marks::{Mark, mark_at};
-use flat_lists::Short;
 use std::alloc::Allocator;
 use stim_lexer::Items;
 
 impl Cursor {
     // Goes into the last iteration of the block that ends before here.
-    fn enter_behind<O: Copy, T: Copy, S: Short<T>, A: Allocator + Copy>(
+    fn enter_behind<O: Copy, T: Copy, A: Allocator + Copy>(
         &mut self,
-        items: &Items<'_, O, T, S, A>,
+        items: &Items<'_, O, T, A>,
         fresh: usize,
     ) -> usize
         requires nested { AreNested items.now.items }
@@ -37,9 +36,9 @@ impl Cursor {
 
     // Goes back over the start of an iteration: into the one before, or out of the block before its first. Where no
     // instruction of it was passed, none of its iterations reaches one.
-    fn leave_before<O: Copy, T: Copy, S: Short<T>, A: Allocator + Copy>(
+    fn leave_before<O: Copy, T: Copy, A: Allocator + Copy>(
         &mut self,
-        items: &Items<'_, O, T, S, A>,
+        items: &Items<'_, O, T, A>,
         iterations: u64,
         fresh: usize,
     ) -> usize
@@ -68,9 +67,9 @@ impl Cursor {
     }
 
     /// Goes back to behind the instruction before, or to the start. Answers whether an instruction is there.
-    pub(crate) fn go_back_to_instruction<O: Copy, T: Copy, S: Short<T>, A: Allocator + Copy>(
+    pub(crate) fn go_back_to_instruction<O: Copy, T: Copy, A: Allocator + Copy>(
         &mut self,
-        items: &Items<'_, O, T, S, A>,
+        items: &Items<'_, O, T, A>,
     ) -> bool
         requires nested { AreNested items.now.items }
         requires place { IsPlace items.now.items self.old.index (levels_of self.old) }

@@ -6,13 +6,12 @@ ghost use Rattle.cursor.specs.Places.{AreNested, trees_at};
 ghost use Rattle.cursor.specs.private.Blocks.{Spans, IsStarted};
 
 use crate::marks::{Mark, mark_at};
-use flat_lists::Short;
 use std::alloc::Allocator;
 use stim_lexer::Items;
 
 /// Where the body starts that ends here.
-pub(crate) fn body_before<O: Copy, T: Copy, S: Short<T>, A: Allocator + Copy>(
-    items: &Items<'_, O, T, S, A>,
+pub(crate) fn body_before<O: Copy, T: Copy, A: Allocator + Copy>(
+    items: &Items<'_, O, T, A>,
     end: usize,
 ) -> usize
     requires nested { AreNested items.now.items }
@@ -40,8 +39,8 @@ pub(crate) fn body_before<O: Copy, T: Copy, S: Short<T>, A: Allocator + Copy>(
 }
 
 /// Where the body ends that starts here.
-pub(crate) fn end_behind<O: Copy, T: Copy, S: Short<T>, A: Allocator + Copy>(
-    items: &Items<'_, O, T, S, A>,
+pub(crate) fn end_behind<O: Copy, T: Copy, A: Allocator + Copy>(
+    items: &Items<'_, O, T, A>,
     body: usize,
 ) -> usize
     requires nested { AreNested items.now.items }

@@ -9,15 +9,14 @@ ghost use Rattle.cursor.specs.private.Marks.{IsMark};
 
 use crate::cursor::{Cursor, Level};
 use crate::marks::{Mark, mark_at};
-use flat_lists::Short;
 use std::alloc::Allocator;
 use stim_lexer::Items;
 
 impl Cursor {
     // Goes into the first iteration of the block that starts here.
-    fn enter<O: Copy, T: Copy, S: Short<T>, A: Allocator + Copy>(
+    fn enter<O: Copy, T: Copy, A: Allocator + Copy>(
         &mut self,
-        items: &Items<'_, O, T, S, A>,
+        items: &Items<'_, O, T, A>,
         iterations: u64,
         fresh: usize,
     ) -> usize
@@ -38,9 +37,9 @@ impl Cursor {
 
     // Goes over the end of an iteration: into the next one, or out of the block behind its last. Where no instruction of it
     // was passed, none of its iterations reaches one.
-    fn leave<O: Copy, T: Copy, S: Short<T>, A: Allocator + Copy>(
+    fn leave<O: Copy, T: Copy, A: Allocator + Copy>(
         &mut self,
-        items: &Items<'_, O, T, S, A>,
+        items: &Items<'_, O, T, A>,
         fresh: usize,
     ) -> usize
         requires nested { AreNested items.now.items }
@@ -67,9 +66,9 @@ impl Cursor {
     }
 
     /// Goes to the next instruction, or to the end. Answers whether an instruction is there.
-    pub(crate) fn go_to_instruction<O: Copy, T: Copy, S: Short<T>, A: Allocator + Copy>(
+    pub(crate) fn go_to_instruction<O: Copy, T: Copy, A: Allocator + Copy>(
         &mut self,
-        items: &Items<'_, O, T, S, A>,
+        items: &Items<'_, O, T, A>,
     ) -> bool
         requires nested { AreNested items.now.items }
         requires place { IsPlace items.now.items self.old.index (levels_of self.old) }

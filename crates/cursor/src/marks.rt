@@ -3,7 +3,6 @@
 ghost use Rattle.std.specs.Prelude.{◌<◌, length, slice_get};
 ghost use Rattle.cursor.specs.private.Marks.{IsMark};
 
-use flat_lists::Short;
 use std::alloc::Allocator;
 use stim_lexer::{Item, Items};
 
@@ -16,8 +15,8 @@ pub(crate) enum Mark {
 }
 
 /// The kind of the item at a place.
-pub(crate) fn mark_at<O: Copy, T: Copy, S: Short<T>, A: Allocator + Copy>(
-    items: &Items<'_, O, T, S, A>,
+pub(crate) fn mark_at<O: Copy, T: Copy, A: Allocator + Copy>(
+    items: &Items<'_, O, T, A>,
     i: usize,
 ) -> Mark
     requires { i < length items.now.items }

@@ -123,8 +123,8 @@ accepted-is number s targets operation arguments i is e =
     same j i e = cc
 
 -- the instruction that is handed out of a place is that which stands there
-pub handed-is : (items : List Item) (k : ℕ) (i : Instruction) (l : handed.Instruction Operation Target Target) → Some (item_in (λ (t : Target). t) (item.InstructionLine l)) ≡ slice_get items k → slice_get items k ≡ Some (InstructionLine i)
-    → instruction_in (λ (t : Target). t) l ≡ i
+pub handed-is : (items : List Item) (k : ℕ) (i : Instruction) (l : handed.Instruction Operation Target) → Some (item_in (item.InstructionLine l)) ≡ slice_get items k → slice_get items k ≡ Some (InstructionLine i)
+    → instruction_in l ≡ i
 handed-is items k i l e got = same _ i (e ∙ got)
   where
     same : (j i : Instruction) → Some (InstructionLine j) ≡ Some (InstructionLine i) → j ≡ i

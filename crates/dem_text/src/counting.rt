@@ -73,10 +73,10 @@ impl Counting {
     }
 
     /// Goes past what stands at a place.
-    pub(crate) fn pass(&mut self, item: Item<'_, '_, Operation, Target, Target>)
-        requires { CanStand Fits (item_in (λ target. target) item)
+    pub(crate) fn pass(&mut self, item: Item<'_, '_, Operation, Target>)
+        requires { CanStand Fits (item_in item)
             (array_vec_len self.old.blocks) }
-        ensures { Passes counting (item_in (λ target. target) item.entry) self.old.counts
+        ensures { Passes counting (item_in item.entry) self.old.counts
             self.old.blocks.items self.new.counts self.new.blocks.items }
     {
         match item {

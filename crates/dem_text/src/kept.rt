@@ -2,7 +2,6 @@
 ghost use Rattle.std.specs.Prelude.{◌≡◌, ◌⊎◌, ◌+◌, ◌<◌, ◌≤◌, ◌^◌, ℕ, false, true, List, [], Some, length, slice_get, IfOk, IfErr};
 ghost use Rattle.cursor.specs.Moves.{GoesOver};
 ghost use Rattle.cursor.specs.Places.{AreNested, StandsIn, before_of, left_of};
-ghost use Rattle.flat_lists.specs.Short.{list_in};
 ghost use Rattle.stim_lexer.specs.Fitting.{IsWritten, ReadingFits};
 ghost use Rattle.stim_lexer.specs.Flat.{tree_of};
 ghost use Rattle.stim_lexer.specs.Judged.{left_open};
@@ -29,29 +28,17 @@ use crate::operation::Operation;
 use crate::target::Target;
 use arrayvec::ArrayVec;
 use cursor::Cursor;
-use flat_lists::{FlatLists, Short, ShortList};
+use flat_lists::FlatLists;
 use std::alloc::{AllocError, Allocator};
 use std::marker::Model;
 use step_model::{Cause, Fault};
 use stim_lexer::{Builder, Item, Items, Said};
 use stim_parser::MOST_ARGUMENTS;
 
-impl Short<Target> for Target {
-    ghost long = { λ target. target };
-
-    fn shorten(item: Target) -> Option<Target> {
-        Some(item)
-    }
-
-    fn lengthen(self) -> Target {
-        self
-    }
-}
-
 /// Lines that are read one after another.
 #[derive(Drop)]
 pub(crate) struct Keeping<'a, A: Allocator + Copy> {
-    builder: Builder<'a, Operation, Target, Target, A>,
+    builder: Builder<'a, Operation, Target, A>,
     briefs: Vec<Brief, A>,
     stated: FlatLists<i64, A>,
 }
@@ -59,7 +46,7 @@ pub(crate) struct Keeping<'a, A: Allocator + Copy> {
 /// Lines whose blocks are closed.
 #[derive(Drop)]
 pub(crate) struct Kept<'a, A: Allocator + Copy> {
-    items: Items<'a, Operation, Target, Target, A>,
+    items: Items<'a, Operation, Target, A>,
     briefs: Vec<Brief, A>,
     stated: FlatLists<i64, A>,
 }
@@ -113,17 +100,6 @@ fn known_in(
             stated.clear();
             NO_LINE
         }
-    }
-}
-
-/// The targets of an item.
-#[inline(always)]
-fn all_of<'k>(targets: ShortList<'k, Target, Target>) -> &'k [Target]
-    ensures { result.now ≡ list_in (λ target. target) targets.entry }
-{
-    match targets {
-        ShortList::Short(targets) => targets,
-        ShortList::Long(targets) => targets,
     }
 }
 
@@ -289,7 +265,7 @@ impl<'a, A: Allocator + Copy> Kept<'a, A> {
             Item::InstructionLine(instruction) => KeptLine {
                 brief: self.briefs[place],
                 stated: self.stated.get(place),
-                targets: all_of(instruction.targets),
+                targets: instruction.targets,
                 arguments: instruction.arguments,
             },
             _ => unreachable!(),

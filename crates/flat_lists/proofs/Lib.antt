@@ -1,5 +1,4 @@
 pub mod CutLemmas
-pub mod JoinedLemmas
 pub mod MovedLemmas
 pub mod NumberLemmas
 pub mod RepeatLemmas

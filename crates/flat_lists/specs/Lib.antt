@@ -1,4 +1,3 @@
 pub mod Cuts
-pub mod Short
 pub mod Turns
 pub mod private

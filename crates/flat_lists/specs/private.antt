@@ -1,4 +1,3 @@
-pub mod Joined
 pub mod Numbers
 pub mod Repeats
 pub mod Rooms

@@ -9,11 +9,9 @@ mod moved_lists;
 mod number_lists;
 mod packed_lists;
 mod rooms;
-mod short_lists;
 
 pub use number_lists::{MOST_NUMBERS, NumberLists};
 pub use rooms::ListRooms;
-pub use short_lists::{Short, ShortList, ShortLists};
 use std::alloc::{AllocError, Allocator};
 use std::marker::Model;
 
@@ -118,17 +116,6 @@ impl<T: Copy, A: Allocator + Copy> FlatLists<T, A> {
         self.items.extend_from_slice(list)?;
         self.ends.push_reserved(end);
         Ok(())
-    }
-
-    // Takes the last list away.
-    fn pop(&mut self)
-        requires { 0 < length self.old }
-        ensures { self.new ≡ take (length self.old - 1) self.old }
-    {
-        let last = self.ends.len() - 1;
-        let start = start_of(&self.ends, last);
-        self.ends.truncate(last);
-        self.items.truncate(start);
     }
 
     /// The list at an index.

@@ -1,7 +1,6 @@
 -- What is kept of items, and what is handed out of them. The targets of all items are kept in one list of lists, which are
 -- empty where an item isn't an instruction.
 use Rattle.std.specs.Prelude.{ℕ, List, [], ◌∷◌}
-use Rattle.flat_lists.specs.Short.{list_in}
 use Rattle.stim_lexer.specs.declared.items.Instruction as instruction
 use Rattle.stim_lexer.specs.declared.items.Item as handed
 use Rattle.stim_lexer.specs.declared.items.Item.TheVariants as item
@@ -29,21 +28,20 @@ mark_kept n = 0
 
 -- ---- what is handed out
 
--- `long` gives the target of which a form is the short one
-abbrev pub instruction_in : {O T S : Type 0} → (S → T) → instruction.Instruction O T S → Instruction O T
-instruction_in long i =
+abbrev pub instruction_in : {O T : Type 0} → instruction.Instruction O T → Instruction O T
+instruction_in i =
     record {
       line = i.line;
       operation = i.operation;
       arguments = arguments_in i.arguments.now;
-      targets = list_in long i.targets;
+      targets = i.targets.now;
     }
 
-abbrev pub item_in : {O T S : Type 0} → (S → T) → handed.Item O T S → Item (Instruction O T)
-item_in long (item.InstructionLine i) = InstructionLine (instruction_in long i)
-item_in long (item.BlockStart line turns) = BlockStart line turns
-item_in long item.BlockEnd = BlockEnd
+abbrev pub item_in : {O T : Type 0} → handed.Item O T → Item (Instruction O T)
+item_in (item.InstructionLine i) = InstructionLine (instruction_in i)
+item_in (item.BlockStart line turns) = BlockStart line turns
+item_in item.BlockEnd = BlockEnd
 
-abbrev pub mark_in : {O T S : Type 0} → handed.Item O T S → ℕ
+abbrev pub mark_in : {O T : Type 0} → handed.Item O T → ℕ
 mark_in (item.InstructionLine i) = i.mark
 mark_in item = 0

@@ -8,19 +8,18 @@ use crate::blocks::LEVELS;
 use crate::items::{Items, Node};
 use crate::said::Said;
 use arrayvec::ArrayVec;
-use flat_lists::Short;
 use std::alloc::{AllocError, Allocator};
 use std::marker::Model;
 use step_model::{Cause, Fault};
 
 /// A text that is read line by line.
-pub struct Builder<'a, O: Copy, T: Copy, S: Short<T>, A: Allocator + Copy> {
-    items: Items<'a, O, T, S, A>,
+pub struct Builder<'a, O: Copy, T: Copy, A: Allocator + Copy> {
+    items: Items<'a, O, T, A>,
     // The lines of the open blocks, the outermost first.
     blocks: ArrayVec<u64, LEVELS>,
 }
 
-impl<'a, O: Copy, T: Copy, S: Short<T>, A: Allocator + Copy> Model for Builder<'a, O, T, S, A> {
+impl<'a, O: Copy, T: Copy, A: Allocator + Copy> Model for Builder<'a, O, T, A> {
     ghost use Rattle.std.specs.Prelude.{reverse};
     ghost use Rattle.stim_lexer.specs.Instructions.{Instruction};
     ghost use Rattle.stim_lexer.specs.Marked.{Begun};
@@ -31,7 +30,7 @@ impl<'a, O: Copy, T: Copy, S: Short<T>, A: Allocator + Copy> Model for Builder<'
 }
 
 // Written out, so that it is a call in the proof of each function that owns one.
-impl<O: Copy, T: Copy, S: Short<T>, A: Allocator + Copy> Drop for Builder<'_, O, T, S, A> {
+impl<O: Copy, T: Copy, A: Allocator + Copy> Drop for Builder<'_, O, T, A> {
     fn drop(self) {
         let Builder { items, blocks } = self;
         drop(items);
@@ -39,7 +38,7 @@ impl<O: Copy, T: Copy, S: Short<T>, A: Allocator + Copy> Drop for Builder<'_, O,
     }
 }
 
-impl<'a, O: Copy, T: Copy, S: Short<T>, A: Allocator + Copy> Builder<'a, O, T, S, A> {
+impl<'a, O: Copy, T: Copy, A: Allocator + Copy> Builder<'a, O, T, A> {
     /// A text of which no line was read. Takes no memory.
     pub fn new(alloc: A) -> Self
         ensures { result ≡ record { text = record { items = []; opened = [] }; marks = [] } }
@@ -102,7 +101,7 @@ impl<'a, O: Copy, T: Copy, S: Short<T>, A: Allocator + Copy> Builder<'a, O, T, S
     }
 
     /// The items that were read. Where a block is left open, the refusal for this cause, with the line of the innermost.
-    pub fn finish(self, cause: Cause) -> Result<Items<'a, O, T, S, A>, Fault>
+    pub fn finish(self, cause: Cause) -> Result<Items<'a, O, T, A>, Fault>
         ensures opened { IfOk result (λ items. self.entry.text.opened ≡ []) }
         ensures items { IfOk result (λ items. items
             ≡ record { items = self.entry.text.items; marks = self.entry.marks }) }

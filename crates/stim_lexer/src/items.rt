@@ -3,18 +3,18 @@ ghost use Rattle.stim_lexer.specs.Kept.{item_in, item_kept, mark_in, mark_kept};
 ghost use Rattle.stim_lexer.specs.Marked.{with_item};
 ghost use Rattle.stim_lexer.specs.Trees.{BlockStart, BlockEnd};
 
-use flat_lists::{Short, ShortList, ShortLists};
+use flat_lists::FlatLists;
 use std::alloc::{AllocError, Allocator};
 use std::marker::Model;
 
 /// An instruction of a text: the line that it stands on, what it does, the text between its parentheses, and its targets.
 #[derive(Clone, Copy)]
-pub struct Instruction<'c, 'a, O: Copy, T: Copy, S: Short<T>> {
+pub struct Instruction<'c, 'a, O: Copy, T: Copy> {
     pub line: u64,
     pub operation: O,
     /// Empty also where there are no parentheses.
     pub arguments: &'a [u8],
-    pub targets: ShortList<'c, T, S>,
+    pub targets: &'c [T],
     /// What the reader of a format knows of the instruction by this number.
     pub mark: u32,
 }
@@ -22,8 +22,8 @@ pub struct Instruction<'c, 'a, O: Copy, T: Copy, S: Short<T>> {
 /// What stands at a place of a text: an instruction, the start of a block with its line and turns, or the end of the
 /// innermost block.
 #[derive(Clone, Copy)]
-pub enum Item<'c, 'a, O: Copy, T: Copy, S: Short<T>> {
-    InstructionLine(Instruction<'c, 'a, O, T, S>),
+pub enum Item<'c, 'a, O: Copy, T: Copy> {
+    InstructionLine(Instruction<'c, 'a, O, T>),
     BlockStart { line: u64, turns: u64 },
     BlockEnd,
 }
@@ -46,13 +46,13 @@ pub(crate) enum Node<'a, O> {
 }
 
 /// Items in the order of the text. Blocks are kept flat, so no recursion is needed to go over them.
-pub struct Items<'a, O: Copy, T: Copy, S: Short<T>, A: Allocator + Copy> {
+pub struct Items<'a, O: Copy, T: Copy, A: Allocator + Copy> {
     nodes: Vec<Node<'a, O>, A>,
     // A list for each node, empty where it isn't an instruction.
-    targets: ShortLists<T, S, A>,
+    targets: FlatLists<T, A>,
 }
 
-impl<'a, O: Copy, T: Copy, S: Short<T>, A: Allocator + Copy> Model for Items<'a, O, T, S, A> {
+impl<'a, O: Copy, T: Copy, A: Allocator + Copy> Model for Items<'a, O, T, A> {
     ghost use Rattle.std.specs.Prelude.{◌≡◌, length, map};
     ghost use Rattle.stim_lexer.specs.Instructions.{Instruction};
     ghost use Rattle.stim_lexer.specs.Kept.{items_kept, mark_kept};
@@ -66,7 +66,7 @@ impl<'a, O: Copy, T: Copy, S: Short<T>, A: Allocator + Copy> Model for Items<'a,
 }
 
 // Written out, so that it is a call in the proof of each function that owns one.
-impl<O: Copy, T: Copy, S: Short<T>, A: Allocator + Copy> Drop for Items<'_, O, T, S, A> {
+impl<O: Copy, T: Copy, A: Allocator + Copy> Drop for Items<'_, O, T, A> {
     fn drop(self) {
         let Items { nodes, targets } = self;
         drop(nodes);
@@ -74,14 +74,14 @@ impl<O: Copy, T: Copy, S: Short<T>, A: Allocator + Copy> Drop for Items<'_, O, T
     }
 }
 
-impl<'a, O: Copy, T: Copy, S: Short<T>, A: Allocator + Copy> Items<'a, O, T, S, A> {
+impl<'a, O: Copy, T: Copy, A: Allocator + Copy> Items<'a, O, T, A> {
     /// No items. Takes no memory.
     pub(crate) fn new(alloc: A) -> Self
         ensures { result ≡ record { items = []; marks = [] } }
     {
         Items {
             nodes: Vec::new(alloc),
-            targets: ShortLists::new(alloc),
+            targets: FlatLists::new(alloc),
         }
     }
 
@@ -130,9 +130,9 @@ impl<'a, O: Copy, T: Copy, S: Short<T>, A: Allocator + Copy> Items<'a, O, T, S, 
     /// The item at a place.
     #[inline(always)]
     #[tactic(auto, using(crate::proofs::FlatLemmas::counts))]
-    pub fn get(&self, i: usize) -> Item<'_, 'a, O, T, S>
+    pub fn get(&self, i: usize) -> Item<'_, 'a, O, T>
         requires { i < length self.now.items }
-        ensures item { Some (item_in S.long result) ≡ slice_get self.now.items i }
+        ensures item { Some (item_in result) ≡ slice_get self.now.items i }
         ensures mark { mark_in result ≡ slice_index_or self.now.marks i 0 }
     {
         match self.nodes[i] {

@@ -23,6 +23,7 @@ pub mod CircuitFits
 pub mod WholeNumberLemmas
 mod WrittenLemmas
 pub mod TargetNumbers
+mod TargetWords
 pub mod RecordTargets
 pub mod NumberArguments
 pub mod FewArguments

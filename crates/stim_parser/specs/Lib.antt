@@ -18,6 +18,5 @@ pub mod Coordinates
 pub mod Offsets
 pub mod Judged
 pub mod Rows
-pub mod ShortTargets
 pub mod Products
 pub mod private

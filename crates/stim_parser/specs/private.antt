@@ -1,6 +1,6 @@
 pub mod Brackets
 pub mod Decimals
-pub mod Halves
+pub mod Words
 pub mod QubitSets
 pub mod Questions
 pub mod Significant

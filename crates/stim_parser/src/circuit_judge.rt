@@ -1,9 +1,9 @@
-ghost use Rattle.std.specs.Prelude.{◌≡◌, ◌&&◌, ◌||◌, not};
+ghost use Rattle.std.specs.Prelude.{◌≡◌, ◌&&◌, ◌||◌, ◌∷◌, List, not};
 ghost use Rattle.stim_lexer.specs.Bytes.{after_blanks, is_empty};
 ghost use Rattle.stim_parser.specs.Circuits as circuits;
 ghost use Rattle.stim_parser.specs.Instructions.{gate_targets};
 ghost use Rattle.stim_parser.specs.Limits.{has_wrong_count};
-ghost use Rattle.stim_parser.specs.Verdicts.{circuit_table, takes_none};
+ghost use Rattle.stim_parser.specs.Verdicts.{circuit_table, takes_none, turns_of};
 
 use crate::forms::{ArgumentForm, TargetForm};
 use crate::last::Last;
@@ -13,6 +13,7 @@ use crate::operation::Operation;
 use crate::table::{Causes, Judge, Keyword};
 use crate::target::{Target, read_targets};
 use crate::target_checks::{are_of_form, has_same_qubit, has_wrong_count, is_target_beyond};
+use crate::target_word::TargetWord;
 use gate_table::Gate;
 use std::alloc::{AllocError, Allocator};
 use step_model::Cause;
@@ -25,7 +26,7 @@ fn takes_none(form: TargetForm) -> bool
 }
 
 /// Whether there are targets where none is taken, or another number of them than is taken.
-fn has_wrong_number(form: TargetForm, text: &[u8], targets: &[Target]) -> bool
+fn has_wrong_number(form: TargetForm, text: &[u8], targets: &[TargetWord]) -> bool
     ensures { result
         ≡ ((takes_none form && not (is_empty (after_blanks text.now)))
         || has_wrong_count form targets.now) }
@@ -50,10 +51,21 @@ fn gate_targets(gate: Gate) -> TargetForm
     }
 }
 
+/// The number of a target that is a number alone, and 0 for any other.
+#[inline(always)]
+fn number_alone(target: Target) -> u64
+    ensures { (rest : List Target) → result ≡ turns_of (target ∷ rest) }
+{
+    match target {
+        Target::Plain(number) => number,
+        _ => 0,
+    }
+}
+
 /// The judge of a circuit's lines.
 pub struct CircuitJudge;
 
-impl Judge<Operation, Target, TargetForm> for CircuitJudge {
+impl Judge<Operation, TargetWord, TargetForm> for CircuitJudge {
     ghost table = { circuit_table };
 
     ghost Fits = { circuits.Fits };
@@ -118,7 +130,7 @@ impl Judge<Operation, Target, TargetForm> for CircuitJudge {
     }
 
     fn read_targets<A: Allocator + Copy>(
-        targets: &mut Vec<Target, A>,
+        targets: &mut Vec<TargetWord, A>,
         form: TargetForm,
         text: &[u8],
     ) -> Result<bool, AllocError> {
@@ -130,16 +142,16 @@ impl Judge<Operation, Target, TargetForm> for CircuitJudge {
     }
 
     #[inline(always)]
-    fn are_of_form(form: TargetForm, targets: &[Target]) -> bool {
+    fn are_of_form(form: TargetForm, targets: &[TargetWord]) -> bool {
         are_of_form(form, targets)
     }
 
     #[tactic(auto, unfolding(crate::specs::Limits::has_target_beyond))]
-    fn has_target_beyond(form: TargetForm, targets: &[Target]) -> bool {
+    fn has_target_beyond(form: TargetForm, targets: &[TargetWord]) -> bool {
         targets.iter().any(|target| is_target_beyond(form, *target))
     }
 
-    fn refusal_of_targets(form: TargetForm, text: &[u8], targets: &[Target]) -> Option<Cause> {
+    fn refusal_of_targets(form: TargetForm, text: &[u8], targets: &[TargetWord]) -> Option<Cause> {
         if has_wrong_number(form, text, targets) {
             return Some(Cause::Count);
         }
@@ -150,10 +162,10 @@ impl Judge<Operation, Target, TargetForm> for CircuitJudge {
     }
 
     #[inline(always)]
-    fn turns_of(targets: &[Target]) -> u64 {
+    fn turns_of(targets: &[TargetWord]) -> u64 {
         match targets {
-            [Target::Plain(turns), ..] => turns.value(),
-            _ => 0,
+            [first, ..] => number_alone(first.get()),
+            [] => 0,
         }
     }
 

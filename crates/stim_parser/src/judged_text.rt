@@ -5,7 +5,6 @@ ghost use Rattle.stim_lexer.specs.Trees.{items_of};
 ghost use Rattle.stim_parser.specs.Probabilities.{Keeps};
 
 use crate::table::Judge;
-use flat_lists::Short;
 use std::alloc::Allocator;
 use std::marker::{Model, PhantomData};
 use step_model::ChanceText;
@@ -14,27 +13,19 @@ use stim_lexer::{Item, Items};
 /// The items of a text, and the texts of their probabilities. The mark of an instruction that has a probability is the
 /// number of that among the texts, unless there are more than 2^32 of them.
 #[derive(Drop)]
-pub struct Numbered<'a, O: Copy, T: Copy, S: Short<T>, A: Allocator + Copy> {
-    pub items: Items<'a, O, T, S, A>,
+pub struct Numbered<'a, O: Copy, T: Copy, A: Allocator + Copy> {
+    pub items: Items<'a, O, T, A>,
     pub texts: Vec<ChanceText<'a>, A>,
 }
 
 /// What a text writes that its judge accepts: its blocks stand among its instructions.
-pub struct JudgedText<
-    'a,
-    O: Copy,
-    T: Copy,
-    S: Short<T>,
-    F: Copy,
-    J: Judge<O, T, F>,
-    A: Allocator + Copy,
-> {
-    read: Numbered<'a, O, T, S, A>,
+pub struct JudgedText<'a, O: Copy, T: Copy, F: Copy, J: Judge<O, T, F>, A: Allocator + Copy> {
+    read: Numbered<'a, O, T, A>,
     judge: PhantomData<(F, J)>,
 }
 
-impl<'a, O: Copy, T: Copy, S: Short<T>, F: Copy, J: Judge<O, T, F>, A: Allocator + Copy> Model
-    for JudgedText<'a, O, T, S, F, J, A> {
+impl<'a, O: Copy, T: Copy, F: Copy, J: Judge<O, T, F>, A: Allocator + Copy> Model
+    for JudgedText<'a, O, T, F, J, A> {
     ghost use Rattle.stim_lexer.specs.Flat.{tree_of};
     ghost use Rattle.stim_lexer.specs.Fitting.{IsWritten};
     ghost use Rattle.stim_lexer.specs.Stored.{coded_tree, coded_instruction};
@@ -53,25 +44,24 @@ impl<'a, O: Copy, T: Copy, S: Short<T>, F: Copy, J: Judge<O, T, F>, A: Allocator
 }
 
 // Written out, so that it is a call in the proof of each function that owns one.
-impl<O: Copy, T: Copy, S: Short<T>, F: Copy, J: Judge<O, T, F>, A: Allocator + Copy> Drop
-    for JudgedText<'_, O, T, S, F, J, A> {
+impl<O: Copy, T: Copy, F: Copy, J: Judge<O, T, F>, A: Allocator + Copy> Drop
+    for JudgedText<'_, O, T, F, J, A> {
     fn drop(self) {
         let JudgedText { read, judge: _ } = self;
         drop(read);
     }
 }
 
-impl<'a, O: Copy, T: Copy, S: Short<T>, F: Copy, J: Judge<O, T, F>, A: Allocator + Copy> JudgedText<
+impl<'a, O: Copy, T: Copy, F: Copy, J: Judge<O, T, F>, A: Allocator + Copy> JudgedText<
     'a,
     O,
     T,
-    S,
     F,
     J,
     A,
 > {
     /// The text of these items.
-    pub(crate) fn new(read: Numbered<'a, O, T, S, A>) -> Self
+    pub(crate) fn new(read: Numbered<'a, O, T, A>) -> Self
         requires written { IsWritten J.Fits read.items.items }
         requires kept { Keeps J.table read.texts.items read.items }
         ensures { items_of result ≡ read.entry.items.items }
@@ -99,17 +89,17 @@ impl<'a, O: Copy, T: Copy, S: Short<T>, F: Copy, J: Judge<O, T, F>, A: Allocator
 
     /// The item at a place.
     #[inline(always)]
-    pub fn item(&self, i: usize) -> Item<'_, 'a, O, T, S>
+    pub fn item(&self, i: usize) -> Item<'_, 'a, O, T>
         requires { i < length (items_of self.now) }
-        ensures { Some (item_in S.long result) ≡ slice_get (items_of self.now) i }
+        ensures { Some (item_in result) ≡ slice_get (items_of self.now) i }
     {
         self.read.items.get(i)
     }
 
     /// The item at a place, where there is one.
     #[inline(always)]
-    pub fn get(&self, place: usize) -> Option<Item<'_, 'a, O, T, S>>
-        ensures { option_map (item_in S.long) result ≡ slice_get (items_of self.now) place }
+    pub fn get(&self, place: usize) -> Option<Item<'_, 'a, O, T>>
+        ensures { option_map item_in result ≡ slice_get (items_of self.now) place }
     {
         if place < self.len() {
             Some(self.item(place))
@@ -128,7 +118,7 @@ impl<'a, O: Copy, T: Copy, S: Short<T>, F: Copy, J: Judge<O, T, F>, A: Allocator
         let _read = &self.read;
     }
     /// Its items, and the texts of their probabilities.
-    pub fn numbered(self) -> Numbered<'a, O, T, S, A>
+    pub fn numbered(self) -> Numbered<'a, O, T, A>
         ensures items { result.items.items ≡ items_of self.entry }
         ensures kept { Keeps J.table result.texts.items result.items }
         ensures fits { IsBuilt J.Fits self.entry }

@@ -2,30 +2,31 @@ ghost use Rattle.std.specs.Prelude.{◌≡◌, ◌&&◌};
 ghost use Rattle.stim_parser.specs.Limits.{is_back, is_plain, is_plain_or_back, is_same_qubit, some_pair};
 
 use crate::target::Target;
+use crate::target_word::TargetWord;
 
 /// Whether a target is a number alone.
-pub(crate) fn is_plain(target: Target) -> bool
+pub(crate) fn is_plain(target: TargetWord) -> bool
     ensures { result ≡ is_plain target }
 {
-    matches!(target, Target::Plain(_))
+    matches!(target.get(), Target::Plain(_))
 }
 
 /// Whether a target is a record.
-pub(crate) fn is_back(target: Target) -> bool
+pub(crate) fn is_back(target: TargetWord) -> bool
     ensures { result ≡ is_back target }
 {
-    matches!(target, Target::Back(_))
+    matches!(target.get(), Target::Back(_))
 }
 
 /// Whether a target is a number alone or a record.
-pub(crate) fn is_plain_or_back(target: Target) -> bool
+pub(crate) fn is_plain_or_back(target: TargetWord) -> bool
     ensures { result ≡ is_plain_or_back target }
 {
-    matches!(target, Target::Plain(_) | Target::Back(_))
+    matches!(target.get(), Target::Plain(_) | Target::Back(_))
 }
 
 /// Whether the second of a pair from the left is a record.
-pub(crate) fn has_record_second(targets: &[Target]) -> bool
+pub(crate) fn has_record_second(targets: &[TargetWord]) -> bool
     ensures { result ≡ some_pair (λ a b. is_back b) targets.now }
 {
     let mut rest = targets;
@@ -39,7 +40,7 @@ pub(crate) fn has_record_second(targets: &[Target]) -> bool
 }
 
 /// Whether both of a pair from the left are records.
-pub(crate) fn has_pair_of_records(targets: &[Target]) -> bool
+pub(crate) fn has_pair_of_records(targets: &[TargetWord]) -> bool
     ensures { result ≡ some_pair (λ a b. is_back a && is_back b) targets.now }
 {
     let mut rest = targets;
@@ -53,27 +54,27 @@ pub(crate) fn has_pair_of_records(targets: &[Target]) -> bool
 }
 
 /// Whether a target is this qubit.
-fn is_plain_at(qubit: u64, target: Target) -> bool
+fn is_plain_at(qubit: u64, target: TargetWord) -> bool
     ensures { result ≡ is_same_qubit (Target.Plain qubit) target }
 {
-    match target {
-        Target::Plain(other) => qubit == other.value(),
+    match target.get() {
+        Target::Plain(other) => qubit == other,
         _ => false,
     }
 }
 
 /// Whether two targets are the same qubit.
-fn is_same_qubit(first: Target, second: Target) -> bool
+fn is_same_qubit(first: TargetWord, second: TargetWord) -> bool
     ensures { result ≡ is_same_qubit first second }
 {
-    match first {
-        Target::Plain(qubit) => is_plain_at(qubit.value(), second),
+    match first.get() {
+        Target::Plain(qubit) => is_plain_at(qubit, second),
         _ => false,
     }
 }
 
 /// Whether a pair from the left names one qubit twice.
-pub(crate) fn has_pair_of_one(targets: &[Target]) -> bool
+pub(crate) fn has_pair_of_one(targets: &[TargetWord]) -> bool
     ensures { result ≡ some_pair is_same_qubit targets.now }
 {
     let mut rest = targets;

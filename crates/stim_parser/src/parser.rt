@@ -7,8 +7,7 @@ use crate::circuit_judge::CircuitJudge;
 use crate::forms::TargetForm;
 use crate::operation::Operation;
 use crate::reader::read_text;
-use crate::short_target::ShortTarget;
-use crate::target::Target;
+use crate::target_word::TargetWord;
 use std::alloc::Allocator;
 use step_model::Fault;
 
@@ -18,5 +17,5 @@ pub fn parse<'a, A: Allocator + Copy>(alloc: A, text: &'a [u8]) -> Result<Circui
     ensures ok { IfOk result (λ circuit. Writes text.now circuit) }
     ensures err { IfErr result (λ fault. (fault ≡ memory_fault) ⊎ IsRefusedBy text.now fault) }
 {
-    read_text::<Operation, Target, ShortTarget, TargetForm, CircuitJudge, A>(alloc, text)
+    read_text::<Operation, TargetWord, TargetForm, CircuitJudge, A>(alloc, text)
 }

@@ -6,23 +6,24 @@ ghost use Rattle.stim_parser.specs.private.QubitSets.{is_named};
 
 use crate::qubit_set::QubitSet;
 use crate::target::Target;
+use crate::target_word::TargetWord;
 
 /// Whether a target is a factor of a product, with a `!` or without.
-fn is_factor(target: Target) -> bool
+fn is_factor(target: TargetWord) -> bool
     ensures { result ≡ is_factor target }
 {
-    matches!(target, Target::Pauli(_, _, _))
+    matches!(target.get(), Target::Pauli(_, _, _))
 }
 
 /// Whether a target is the star that joins two factors.
-fn is_joining(target: Target) -> bool
+fn is_joining(target: TargetWord) -> bool
     ensures { result ≡ is_joining target }
 {
-    matches!(target, Target::Star)
+    matches!(target.get(), Target::Star)
 }
 
 /// Whether the first of targets is a factor.
-fn begins_with_factor(targets: &[Target]) -> bool
+fn begins_with_factor(targets: &[TargetWord]) -> bool
     ensures { result ≡ begins_with_factor targets.now }
 {
     match targets {
@@ -32,10 +33,10 @@ fn begins_with_factor(targets: &[Target]) -> bool
 }
 
 /// Whether a target is a factor, or a star before a factor.
-fn goes_on(target: Target, rest: &[Target]) -> bool
+fn goes_on(target: TargetWord, rest: &[TargetWord]) -> bool
     ensures { result ≡ (is_factor target || (is_joining target && begins_with_factor rest.now)) }
 {
-    match target {
+    match target.get() {
         Target::Pauli(_, _, _) => true,
         Target::Star => begins_with_factor(rest),
         Target::Plain(_) | Target::Inverted(_) | Target::Back(_) => false,
@@ -43,7 +44,7 @@ fn goes_on(target: Target, rest: &[Target]) -> bool
 }
 
 /// Whether targets are factors and stars, each star before a factor.
-fn are_factors(targets: &[Target]) -> bool
+fn are_factors(targets: &[TargetWord]) -> bool
     ensures { result ≡ are_factors targets.now }
 {
     let mut left = targets;
@@ -57,7 +58,7 @@ fn are_factors(targets: &[Target]) -> bool
 }
 
 /// Whether targets are factors and the stars that join them.
-pub(crate) fn are_products(targets: &[Target]) -> bool
+pub(crate) fn are_products(targets: &[TargetWord]) -> bool
     ensures { result ≡ are_products targets.now }
 {
     match targets {
@@ -67,41 +68,41 @@ pub(crate) fn are_products(targets: &[Target]) -> bool
 }
 
 /// Whether a target is a factor at a qubit of a set.
-fn is_factor_within(named: &QubitSet, target: Target) -> bool
+fn is_factor_within(named: &QubitSet, target: TargetWord) -> bool
     requires { is_target_beyond Products target ≡ false }
     ensures { result ≡ is_factor_within (is_named named.now.words) target }
 {
-    match target {
-        Target::Pauli(_, _, qubit) => named.contains(qubit.value()),
+    match target.get() {
+        Target::Pauli(_, _, qubit) => named.contains(qubit),
         _ => false,
     }
 }
 
 /// Puts a factor's qubit into a set.
-fn put_in(named: &mut QubitSet, target: Target)
+fn put_in(named: &mut QubitSet, target: TargetWord)
     requires { is_target_beyond Products target ≡ false }
     ensures { (q : ℕ)
         → is_named named.new.words q ≡ (is_factor_at q target || is_named named.old.words q) }
 {
-    if let Target::Pauli(_, _, qubit) = target {
-        named.insert(qubit.value());
+    if let Target::Pauli(_, _, qubit) = target.get() {
+        named.insert(qubit);
     }
 }
 
 /// Takes a factor's qubit out of a set.
-fn take_out(named: &mut QubitSet, target: Target)
+fn take_out(named: &mut QubitSet, target: TargetWord)
     requires { is_target_beyond Products target ≡ false }
     ensures { (q : ℕ)
         → is_named named.new.words q ≡ (not (is_factor_at q target) && is_named named.old.words q) }
 {
-    if let Target::Pauli(_, _, qubit) = target {
-        named.remove(qubit.value());
+    if let Target::Pauli(_, _, qubit) = target.get() {
+        named.remove(qubit);
     }
 }
 
 /// Goes over a product after its first factor and puts its qubits into a set. It answers what follows the product, or
 /// none where the product names a qubit of the set or one qubit twice.
-fn go_over<'a>(named: &mut QubitSet, targets: &'a [Target]) -> Option<&'a [Target]>
+fn go_over<'a>(named: &mut QubitSet, targets: &'a [TargetWord]) -> Option<&'a [TargetWord]>
     requires { has_target_beyond Products targets.now ≡ false }
     ensures again { MatchOption result
         (repeats_within (is_named named.old.words) targets.now ≡ true)
@@ -127,7 +128,7 @@ fn go_over<'a>(named: &mut QubitSet, targets: &'a [Target]) -> Option<&'a [Targe
 }
 
 /// Goes over a product after its first factor and takes its qubits out of a set.
-fn go_back(named: &mut QubitSet, targets: &[Target])
+fn go_back(named: &mut QubitSet, targets: &[TargetWord])
     requires { has_target_beyond Products targets.now ≡ false }
     ensures { (q : ℕ)
         → is_named named.new.words q
@@ -145,7 +146,7 @@ fn go_back(named: &mut QubitSet, targets: &[Target])
 
 /// Whether a product names one qubit twice. Each target is gone over at most twice: one set serves all products, and
 /// what a product put in is taken out after it. A new set for each would cost more, since most products are short.
-pub(crate) fn has_product_of_one(targets: &[Target]) -> bool
+pub(crate) fn has_product_of_one(targets: &[TargetWord]) -> bool
     requires { has_target_beyond Products targets.now ≡ false }
     ensures { result ≡ has_product_of_one targets.now }
 {

@@ -14,7 +14,6 @@ use crate::judge::read_line;
 use crate::judged_text::{JudgedText, Numbered};
 use crate::last::{Last, LastParentheses};
 use crate::table::{Judge, Keyword};
-use flat_lists::Short;
 use std::alloc::{AllocError, Allocator};
 use step_model::{ChanceText, Fault, number_of};
 use stim_lexer::{Builder, Lexer, Line, Said};
@@ -55,8 +54,8 @@ fn mark_of<'a, O: Copy, T: Copy, F: Copy, J: Judge<O, T, F>, A: Allocator + Copy
 }
 
 /// Reads the next line, or answers its refusal. The cause is `Memory` only where memory runs out.
-fn read_next<'a, O: Copy, T: Copy, S: Short<T>, F: Copy, J: Judge<O, T, F>, A: Allocator + Copy>(
-    builder: &mut Builder<'a, O, T, S, A>,
+fn read_next<'a, O: Copy, T: Copy, F: Copy, J: Judge<O, T, F>, A: Allocator + Copy>(
+    builder: &mut Builder<'a, O, T, A>,
     texts: &mut Vec<ChanceText<'a>, A>,
     last: &mut Last<'a>,
     targets: &mut Vec<T, A>,
@@ -93,10 +92,10 @@ fn read_next<'a, O: Copy, T: Copy, S: Short<T>, F: Copy, J: Judge<O, T, F>, A: A
 
 /// The items of a text in the format of a judge with the texts of their probabilities, or the text's refusal. The cause is
 /// `Memory` only where memory runs out.
-fn read_items<'a, O: Copy, T: Copy, S: Short<T>, F: Copy, J: Judge<O, T, F>, A: Allocator + Copy>(
+fn read_items<'a, O: Copy, T: Copy, F: Copy, J: Judge<O, T, F>, A: Allocator + Copy>(
     alloc: A,
     text: &'a [u8],
-) -> Result<Numbered<'a, O, T, S, A>, Fault>
+) -> Result<Numbered<'a, O, T, A>, Fault>
     ensures ok { IfOk result (λ read. items_in (format_of J.table) text.now ≡ Ok read.items.items) }
     ensures kept { IfOk result (λ read. Keeps J.table read.texts.items read.items) }
     ensures err { IfErr result (λ fault. (fault ≡ memory_fault)
@@ -108,7 +107,7 @@ fn read_items<'a, O: Copy, T: Copy, S: Short<T>, F: Copy, J: Judge<O, T, F>, A: 
     let mut last = Last::new();
     let mut targets = Vec::new(alloc);
     while let Some(line) = lexer.next_line()? {
-        read_next::<O, T, S, F, J, A>(&mut builder, &mut texts, &mut last, &mut targets, line)?;
+        read_next::<O, T, F, J, A>(&mut builder, &mut texts, &mut last, &mut targets, line)?;
     }
     let items = builder.finish(J::causes().block)?;
     Ok(Numbered { items, texts })
@@ -116,20 +115,15 @@ fn read_items<'a, O: Copy, T: Copy, S: Short<T>, F: Copy, J: Judge<O, T, F>, A: 
 
 /// What a text writes in the format of a judge, or the first refusal of its lines. The cause is `Memory`, and the line 0,
 /// only where memory runs out.
-pub fn read_text<
-    'a,
-    O: Copy,
-    T: Copy,
-    S: Short<T>,
-    F: Copy,
-    J: Judge<O, T, F>,
-    A: Allocator + Copy,
->(alloc: A, text: &'a [u8]) -> Result<JudgedText<'a, O, T, S, F, J, A>, Fault>
+pub fn read_text<'a, O: Copy, T: Copy, F: Copy, J: Judge<O, T, F>, A: Allocator + Copy>(
+    alloc: A,
+    text: &'a [u8],
+) -> Result<JudgedText<'a, O, T, F, J, A>, Fault>
     requires { LinesFit J.Fits (format_of J.table) }
     ensures ok { IfOk result (λ read. Writes (format_of J.table) text.now read) }
     ensures err { IfErr result (λ fault. (fault ≡ memory_fault)
         ⊎ IsRefusedBy (format_of J.table) text.now fault) }
 {
-    let read = read_items::<O, T, S, F, J, A>(alloc, text)?;
+    let read = read_items::<O, T, F, J, A>(alloc, text)?;
     Ok(JudgedText::new(read))
 }

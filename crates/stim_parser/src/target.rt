@@ -1,10 +1,11 @@
-ghost use Rattle.std.specs.Prelude.{◌≡◌, None, Some, option_map, IfOk, MatchBool};
+ghost use Rattle.std.specs.Prelude.{◌≡◌, ◌<◌, ◌^◌, None, Some, option_map, IfOk, IfSome, MatchBool};
 ghost use Rattle.stim_parser.specs.private.Brackets.{at_least_one, before_bracket};
+ghost use Rattle.stim_parser.specs.Numbers.{number_of};
 ghost use Rattle.stim_parser.specs.Targets.{inverted_of, letter_of, marked_of, pauli_of, record_of, target_of, targets_in};
 
 use crate::digits::number_of;
-use crate::halved::Number;
 use crate::piece_values::{PieceValue, read_pieces};
+use crate::target_word::TargetWord;
 use pauli_word::Letter;
 use std::alloc::{AllocError, Allocator};
 
@@ -12,13 +13,13 @@ use std::alloc::{AllocError, Allocator};
 #[derive(Clone, Copy)]
 pub enum Target {
     /// A number alone: a qubit, or how often a block is repeated.
-    Plain(Number),
+    Plain(u64),
     /// A qubit with `!` before it.
-    Inverted(Number),
+    Inverted(u64),
     /// A record, by how far back it lies, from 1.
-    Back(Number),
+    Back(u64),
     /// A letter at a qubit, and whether `!` stands before it.
-    Pauli(bool, Letter, Number),
+    Pauli(bool, Letter, u64),
     /// A `*`, which joins the Pauli targets beside it.
     Star,
 }
@@ -33,11 +34,21 @@ fn before_bracket(text: &[u8]) -> Option<&[u8]>
     }
 }
 
+/// The number that digits write. It has room in sixty bits.
+#[inline(always)]
+fn near_number_of(digits: &[u8]) -> Option<u64>
+    ensures value { result ≡ number_of digits.now }
+    ensures near { IfSome result (λ number. number < 2 ^ 60) }
+{
+    number_of(digits)
+}
+
 /// A number that isn't 0.
 fn at_least_one(digits: &[u8]) -> Option<u64>
-    ensures { result ≡ at_least_one digits.now }
+    ensures value { result ≡ at_least_one digits.now }
+    ensures near { IfSome result (λ number. number < 2 ^ 60) }
 {
-    match number_of(digits)? {
+    match near_number_of(digits)? {
         0 => None,
         number => Some(number),
     }
@@ -46,7 +57,8 @@ fn at_least_one(digits: &[u8]) -> Option<u64>
 /// How far back the record of a piece `rec[-k]` lies.
 #[tactic(auto, using(crate::proofs::BracketLemmas::record_parts))]
 fn record_of(piece: &[u8]) -> Option<u64>
-    ensures { result ≡ record_of piece.now }
+    ensures value { result ≡ record_of piece.now }
+    ensures near { IfSome result (λ back. back < 2 ^ 60) }
 {
     let rest = piece.strip_prefix(b"rec[-")?;
     let digits = before_bracket(rest)?;
@@ -66,37 +78,37 @@ fn letter_of(byte: u8) -> Option<Letter>
 }
 
 /// A letter and its qubit, after a `!` or not.
-fn pauli_of(inverted: bool, text: &[u8]) -> Option<Target>
+fn pauli_of(inverted: bool, text: &[u8]) -> Option<TargetWord>
     ensures { result ≡ pauli_of inverted text.now }
 {
     match text {
         [first, digits @ ..] => {
             let letter = letter_of(*first)?;
-            let qubit = number_of(digits)?;
-            Some(Target::Pauli(inverted, letter, Number::new(qubit)))
+            let qubit = near_number_of(digits)?;
+            Some(TargetWord::new(Target::Pauli(inverted, letter, qubit)))
         }
         [] => None,
     }
 }
 
 /// The target whose text follows a `!`.
-fn inverted_of(text: &[u8]) -> Option<Target>
+fn inverted_of(text: &[u8]) -> Option<TargetWord>
     ensures { result ≡ inverted_of text.now }
 {
-    match number_of(text) {
-        Some(qubit) => Some(Target::Inverted(Number::new(qubit))),
+    match near_number_of(text) {
+        Some(qubit) => Some(TargetWord::new(Target::Inverted(qubit))),
         None => pauli_of(true, text),
     }
 }
 
 /// A target that is known by its first byte.
-fn marked_of(piece: &[u8]) -> Option<Target>
+fn marked_of(piece: &[u8]) -> Option<TargetWord>
     ensures { result ≡ marked_of piece.now }
 {
     match piece {
         [] => None,
         [b'!', rest @ ..] => inverted_of(rest),
-        [b'*'] => Some(Target::Star),
+        [b'*'] => Some(TargetWord::new(Target::Star)),
         _ => pauli_of(false, piece),
     }
 }
@@ -104,7 +116,7 @@ fn marked_of(piece: &[u8]) -> Option<Target>
 /// The target that a piece writes.
 #[inline(always)]
 #[tactic(auto, unfolding(crate::specs::Targets::target_of))]
-fn target_of(piece: &[u8]) -> Option<Target>
+fn target_of(piece: &[u8]) -> Option<TargetWord>
     ensures { result ≡ target_of piece.now }
 {
     match piece {
@@ -115,22 +127,22 @@ fn target_of(piece: &[u8]) -> Option<Target>
 
 /// The same for any piece; those of a letter at a qubit are found sooner above.
 #[tactic(auto, unfolding(crate::specs::Targets::target_of))]
-fn other_target_of(piece: &[u8]) -> Option<Target>
+fn other_target_of(piece: &[u8]) -> Option<TargetWord>
     ensures { result ≡ target_of piece.now }
 {
-    if let Some(number) = number_of(piece) {
-        return Some(Target::Plain(Number::new(number)));
+    if let Some(number) = near_number_of(piece) {
+        return Some(TargetWord::new(Target::Plain(number)));
     }
     if let Some(back) = record_of(piece) {
-        return Some(Target::Back(Number::new(back)));
+        return Some(TargetWord::new(Target::Back(back)));
     }
     marked_of(piece)
 }
 
-impl PieceValue for Target {
+impl PieceValue for TargetWord {
     ghost written = { target_of };
 
-    fn of_piece(piece: &[u8]) -> Option<Target> {
+    fn of_piece(piece: &[u8]) -> Option<TargetWord> {
         target_of(piece)
     }
 }
@@ -138,7 +150,7 @@ impl PieceValue for Target {
 /// Puts the targets of a text in place of those that were there. Answers whether each of its pieces is a target.
 #[tactic(auto, unfolding(crate::specs::Targets::targets_in))]
 pub(crate) fn read_targets<A: Allocator + Copy>(
-    targets: &mut Vec<Target, A>,
+    targets: &mut Vec<TargetWord, A>,
     text: &[u8],
 ) -> Result<bool, AllocError>
     ensures { IfOk result (λ all. MatchBool all

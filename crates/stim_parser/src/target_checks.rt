@@ -9,46 +9,47 @@ use crate::pairs::{
 };
 use crate::products::{are_products, has_product_of_one};
 use crate::target::Target;
+use crate::target_word::TargetWord;
 
 /// Whether a target is a number, with a `!` before it or not.
-fn is_plain_or_inverted(target: Target) -> bool
+fn is_plain_or_inverted(target: TargetWord) -> bool
     ensures { result ≡ is_plain_or_inverted target }
 {
-    matches!(target, Target::Plain(_) | Target::Inverted(_))
+    matches!(target.get(), Target::Plain(_) | Target::Inverted(_))
 }
 
 /// Whether a target is a letter at a qubit, without a `!`.
-fn is_pauli(target: Target) -> bool
+fn is_pauli(target: TargetWord) -> bool
     ensures { result ≡ is_pauli target }
 {
-    matches!(target, Target::Pauli(false, _, _))
+    matches!(target.get(), Target::Pauli(false, _, _))
 }
 
-fn are_plain(targets: &[Target]) -> bool
+fn are_plain(targets: &[TargetWord]) -> bool
     ensures { result ≡ list_all is_plain targets.now }
 {
     targets.iter().all(|target| is_plain(*target))
 }
 
-fn are_plain_or_inverted(targets: &[Target]) -> bool
+fn are_plain_or_inverted(targets: &[TargetWord]) -> bool
     ensures { result ≡ list_all is_plain_or_inverted targets.now }
 {
     targets.iter().all(|target| is_plain_or_inverted(*target))
 }
 
-fn are_plain_or_back(targets: &[Target]) -> bool
+fn are_plain_or_back(targets: &[TargetWord]) -> bool
     ensures { result ≡ list_all is_plain_or_back targets.now }
 {
     targets.iter().all(|target| is_plain_or_back(*target))
 }
 
-fn are_paulis(targets: &[Target]) -> bool
+fn are_paulis(targets: &[TargetWord]) -> bool
     ensures { result ≡ list_all is_pauli targets.now }
 {
     targets.iter().all(|target| is_pauli(*target))
 }
 
-fn are_back(targets: &[Target]) -> bool
+fn are_back(targets: &[TargetWord]) -> bool
     ensures { result ≡ list_all is_back targets.now }
 {
     targets.iter().all(|target| is_back(*target))
@@ -56,7 +57,7 @@ fn are_back(targets: &[Target]) -> bool
 
 /// Whether targets are of a form. Their number isn't asked.
 #[tactic(auto, unfolding(crate::specs::Limits::are_of_form))]
-pub(crate) fn are_of_form(form: TargetForm, targets: &[Target]) -> bool
+pub(crate) fn are_of_form(form: TargetForm, targets: &[TargetWord]) -> bool
     ensures { result ≡ are_of_form form targets.now }
 {
     match form {
@@ -86,14 +87,14 @@ fn is_plain_beyond(form: TargetForm, number: u64) -> bool
 }
 
 /// Whether a target's number is beyond its limit.
-pub(crate) fn is_target_beyond(form: TargetForm, target: Target) -> bool
+pub(crate) fn is_target_beyond(form: TargetForm, target: TargetWord) -> bool
     ensures { result ≡ is_target_beyond form target }
 {
-    match target {
-        Target::Plain(number) => is_plain_beyond(form, number.value()),
-        Target::Back(back) => is_number_beyond(back.value()),
-        Target::Inverted(qubit) => is_qubit_beyond(qubit.value()),
-        Target::Pauli(_, _, qubit) => is_qubit_beyond(qubit.value()),
+    match target.get() {
+        Target::Plain(number) => is_plain_beyond(form, number),
+        Target::Back(back) => is_number_beyond(back),
+        Target::Inverted(qubit) => is_qubit_beyond(qubit),
+        Target::Pauli(_, _, qubit) => is_qubit_beyond(qubit),
         Target::Star => false,
     }
 }
@@ -110,7 +111,7 @@ fn takes_pairs(form: TargetForm) -> bool
 
 /// Whether this is a number of targets that the form doesn't take. A form without targets is judged elsewhere.
 #[tactic(auto, unfolding(crate::specs::Limits::has_wrong_count))]
-pub(crate) fn has_wrong_count(form: TargetForm, targets: &[Target]) -> bool
+pub(crate) fn has_wrong_count(form: TargetForm, targets: &[TargetWord]) -> bool
     ensures { result ≡ has_wrong_count form targets.now }
 {
     match form {
@@ -121,7 +122,7 @@ pub(crate) fn has_wrong_count(form: TargetForm, targets: &[Target]) -> bool
 
 /// Whether a pair or a product names one qubit twice.
 #[tactic(auto, unfolding(crate::specs::Limits::has_same_qubit))]
-pub(crate) fn has_same_qubit(form: TargetForm, targets: &[Target]) -> bool
+pub(crate) fn has_same_qubit(form: TargetForm, targets: &[TargetWord]) -> bool
     requires { has_target_beyond form targets.now ≡ false }
     ensures { result ≡ has_same_qubit form targets.now }
 {

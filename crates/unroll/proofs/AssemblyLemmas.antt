@@ -27,12 +27,12 @@ use Rattle.unroll.specs.private.Kept.{kept_entries, kept_products}
 use Rattle.unroll.specs.private.Named.{renamed}
 use Rattle.unroll.specs.private.Observables.{observables_of}
 use Rattle.unroll.specs.private.Counted.{refusal_counted}
-use Rattle.unroll.specs.Refusals.{circuit_refusal}
+use Rattle.circuit_walk.specs.Refusals.{circuit_refusal}
 use Rattle.unroll.specs.private.Steps.{steps_of}
 use Rattle.unroll.specs.private.Summed.{AreTotals, greatest}
-use Rattle.unroll.specs.Totals.{observable_total, qubit_total}
+use Rattle.circuit_walk.specs.Totals.{observable_total, qubit_total}
 use Rattle.unroll.specs.private.MadeTotals.{detector_total, fault_total, made_total, collapse_total, record_total}
-use Rattle.unroll.specs.Meaning.{listing_of}
+use Rattle.circuit_walk.specs.Meaning.{listing_of}
 use Rattle.unroll.specs.Programs.{program_of}
 use Rattle.unroll.specs.Untargeted.{LacksTargets, without_targets}
 use Rattle.unroll.proofs.CoordinateFits.{coordinates_fit}

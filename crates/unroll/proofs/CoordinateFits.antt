@@ -14,9 +14,9 @@ use Rattle.stim_lexer.specs.Trees.{Nothing, Then, Block}
 use Rattle.stim_parser.specs.Verdicts.{Instruction}
 use Rattle.unroll.specs.private.Coordinates.{coordinates_from, coordinates_of}
 use Rattle.stim_parser.specs.Offsets.{moved, shifted}
-use Rattle.unroll.specs.TargetsMade.{offset_after, operation_coordinates}
+use Rattle.circuit_walk.specs.TargetsMade.{offset_after, operation_coordinates}
 use Rattle.stim_lexer.specs.Reached.{copies, reached, total}
-use Rattle.unroll.specs.Totals.{step_total}
+use Rattle.circuit_walk.specs.Totals.{step_total}
 use Rattle.unroll.specs.private.MadeTotals.{step_count}
 use Rattle.unroll.proofs.EachReached.{Each, each-reached}
 use Rattle.stim_parser.proofs.CoordinateArguments.{AreUpTo, HasCoordinates, has_coordinates, most}

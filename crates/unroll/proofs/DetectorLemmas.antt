@@ -13,7 +13,7 @@ use Rattle.stim_lexer.specs.declared.blocks.OpenBlock.{OpenBlock}
 use Rattle.unroll.specs.declared.marks.Mark.{Mark}
 use Rattle.unroll.specs.private.Detecting.{detecting, records_moved}
 use Rattle.unroll.specs.private.Detectors.{detectors_from, detectors_of}
-use Rattle.unroll.specs.TargetsMade.{operation_detectors, record_named, records_named}
+use Rattle.circuit_walk.specs.TargetsMade.{operation_detectors, record_named, records_named}
 use Rattle.stim_lexer.specs.Reached.{reached}
 use Rattle.unroll.specs.private.Gathered.{given}
 use Rattle.unroll.proofs.CountLemmas.{CountsRecords, IsCounting, counting-done}

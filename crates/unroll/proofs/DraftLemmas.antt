@@ -19,7 +19,7 @@ use Rattle.unroll.specs.private.Kept.{entries_of, kept_entries, kept_products, p
 use Rattle.unroll.specs.private.Pushed.{IsSmall}
 use Rattle.unroll.specs.private.Counted.{first_far_from}
 use Rattle.unroll.specs.private.Steps.{instruction_steps, steps_of}
-use Rattle.unroll.specs.Totals.{step_total}
+use Rattle.circuit_walk.specs.Totals.{step_total}
 use Rattle.unroll.specs.private.MadeTotals.{record_total}
 use Rattle.unroll.proofs.FarLemmas.{AreNear, EachDoes, each-tree, near_tree}
 use Rattle.unroll.proofs.FitLemmas.{qubits_within}

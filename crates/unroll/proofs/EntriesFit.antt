@@ -20,8 +20,8 @@ use Rattle.stim_parser.specs.Limits.{are_of_form, has_wrong_arguments, has_wrong
 use Rattle.stim_parser.specs.Trees.{Tree}
 use Rattle.stim_parser.specs.Verdicts.{Instruction}
 use Rattle.unroll.specs.private.Kept.{entries_of, entry_at, entry_of, flip_entries, kept_entries, operation_entries}
-use Rattle.unroll.specs.Targets.{term_at, term_of}
-use Rattle.unroll.specs.Totals.{qubits_to, qubit_total, first_argument}
+use Rattle.circuit_walk.specs.Targets.{term_at, term_of}
+use Rattle.circuit_walk.specs.Totals.{qubits_to, qubit_total, first_argument}
 use Rattle.unroll.specs.private.MadeTotals.{qubits_named}
 use Rattle.unroll.proofs.KeptParts.{all_parts}
 use Rattle.unroll.proofs.QubitsWithin.{FitsOn, circuit_fits_on}

@@ -12,7 +12,7 @@ use Rattle.stim_parser.specs.Judged.{items_of}
 use Rattle.stim_parser.specs.Verdicts.{Instruction}
 use Rattle.stim_parser.proofs.TargetNumbers.{none_passes}
 use Rattle.unroll.specs.private.Pushed.{back_of}
-use Rattle.unroll.specs.Refusals.{is_before_start, reaches_far}
+use Rattle.circuit_walk.specs.Refusals.{is_before_start, reaches_far}
 use Rattle.unroll.specs.private.Counted.{first_far_from}
 use Rattle.unroll.specs.private.MadeTotals.{record_count}
 use Rattle.stim_lexer.specs.Reached.{total}

@@ -14,12 +14,12 @@ use Rattle.stim_lexer.specs.Texts.{refused}
 use Rattle.stim_parser.specs.Trees.{Tree}
 use Rattle.stim_lexer.specs.Trees.{Nothing, Then, Block}
 use Rattle.stim_parser.specs.Verdicts.{Instruction}
-use Rattle.unroll.specs.Before.{Before}
+use Rattle.circuit_walk.specs.Before.{Before}
 use Rattle.unroll.specs.private.Counted.{counts_many_detectors, counts_many_records, first_far_from, refusal_counted}
 use Rattle.unroll.specs.private.MadeTotals.{record_count, record_total}
-use Rattle.unroll.specs.Meaning.{after, at_start, listing_of, made_of}
-use Rattle.unroll.specs.Refusals.{first_observable_beyond, first_far_line, has_many_detectors, has_many_records, has_many_steps, is_before_start, most_collapses, most_detectors, most_records, of_circuit, reaches_far, circuit_refusal}
-use Rattle.unroll.specs.Totals.{qubit_total}
+use Rattle.circuit_walk.specs.Meaning.{after, at_start, listing_of, made_of}
+use Rattle.circuit_walk.specs.Refusals.{first_observable_beyond, first_far_line, has_many_detectors, has_many_records, has_many_steps, is_before_start, most_collapses, most_detectors, most_records, of_circuit, reaches_far, circuit_refusal}
+use Rattle.circuit_walk.specs.Totals.{qubit_total}
 use Rattle.unroll.proofs.MadeCounts.{after-records, after_all, after_all-records, made_of-append}
 use Rattle.unroll.proofs.MeaningLemmas.{collapses_made, detectors_made, records_made}
 use Rattle.unroll.proofs.ReachedCounts.{sum-copies, sum-reached}

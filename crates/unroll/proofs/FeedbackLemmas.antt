@@ -22,9 +22,9 @@ use Rattle.stim_lexer.specs.Trees.{Nothing, Then, Block}
 use Rattle.stim_parser.specs.Verdicts.{Instruction}
 use Rattle.unroll.specs.private.Kept.{entries_of, kept_entries, kept_products, products_in}
 use Rattle.unroll.specs.private.Made.{fault_steps, measure_step, one_step, operation_steps, pair_step, pair_steps, product_steps, reset_step}
-use Rattle.unroll.specs.StepsMade.{flip_of}
+use Rattle.circuit_walk.specs.StepsMade.{flip_of}
 use Rattle.stim_parser.specs.Limits.{products_of}
-use Rattle.unroll.specs.Refusals.{is_before_start, reaches_far}
+use Rattle.circuit_walk.specs.Refusals.{is_before_start, reaches_far}
 use Rattle.unroll.specs.private.Counted.{first_far_from}
 use Rattle.unroll.specs.private.Steps.{instruction_steps, steps_from, steps_of}
 use Rattle.unroll.specs.private.MadeTotals.{record_count}

@@ -1,6 +1,5 @@
 -- The numbers of an instruction's targets, as steps and totals take them.
-use Rattle.std.proofs.Common.{◌≡◌, ◌≤◌, List, ◌∷◌, map, sym, ap, ◌∙◌, subst, arith}
-use Rattle.std.proofs.lemmas.List.{map-id}
+use Rattle.std.proofs.Common.{◌≡◌, ◌≤◌, List, ◌∷◌, subst, arith}
 use Rattle.std.proofs.lemmas.List.Elements.{All-head, All-tail}
 use Rattle.std.specs.Prelude.{All}
 use Rattle.stim_parser.specs.declared.target.Target.{Target}
@@ -10,7 +9,7 @@ use Rattle.stim_parser.specs.Verdicts.{Instruction}
 use Rattle.stim_parser.proofs.TargetNumbers.{IsWithin, targets_within}
 use Rattle.stim_parser.specs.Numbers.{most_qubits}
 use Rattle.unroll.specs.private.Pushed.{back_of, IsSmall}
-use Rattle.unroll.specs.Totals.{qubits_to}
+use Rattle.circuit_walk.specs.Totals.{qubits_to}
 
 qubit_within : (t : Target) → IsWithin t → qubits_to t ≤ most_qubits
 qubit_within (Plain q) h = omega (arith, h)
@@ -31,15 +30,6 @@ qubits_within i fits = λ k d lt. qubit_within _ (targets_within i fits k d lt)
 
 pub backs_within : (i : Instruction) → Fits i → All (λ t. back_of t ≤ 999_999_999_999_999_999) i.targets
 backs_within i fits = λ k d lt. back_within _ (targets_within i fits k d lt)
-
--- targets of one form are the target of the first, and those of the others
-pub cut_long : {S : Type 0} (long : S → Target) (forms : List S) (first : S) (after : List S) (target : Target) → forms ≡ first ∷ after → target ≡ long first → map long forms ≡ target ∷ map long after
-cut_long long forms first after target e is =
-    ap (map long) e ∙ ap (λ (t : Target). t ∷ map long after) (sym is)
-
--- targets are their own form
-pub same_long : (P : Target → Type 0) (ts : List Target) → All P ts → All P (map (λ (t : Target). t) ts)
-same_long P ts h = subst (All P) (sym (map-id ts)) h
 
 -- the first target that is cut off, and those that follow
 pub first_small : (ts : List Target) (a : Target) (rest : List Target) → All IsSmall ts → ts ≡ a ∷ rest → IsSmall a × All IsSmall rest

@@ -11,8 +11,8 @@ use Rattle.stim_parser.specs.declared.target.Target.{Target}
 use Rattle.stim_parser.specs.Numbers.{value_of}
 use Rattle.stim_parser.specs.Verdicts.{Instruction}
 use Rattle.stim_parser.proofs.NumberArguments.{NamesNumber}
-use Rattle.unroll.specs.TargetsMade.{record_named, records_named}
-use Rattle.unroll.specs.Totals.{first_argument, observables_to}
+use Rattle.circuit_walk.specs.TargetsMade.{record_named, records_named}
+use Rattle.circuit_walk.specs.Totals.{first_argument, observables_to}
 use Rattle.unroll.specs.private.Detecting.{records_after, records_onward}
 use Rattle.unroll.specs.private.Gathered.{Gathering, given}
 use Rattle.unroll.specs.private.Including.{including, observable_named, record_moved, with_added, with_more}

@@ -20,8 +20,8 @@ use Rattle.stim_lexer.specs.Trees.{InstructionLine, BlockStart, BlockEnd}
 use Rattle.stim_lexer.specs.declared.blocks.OpenBlock.{OpenBlock}
 use Rattle.unroll.specs.declared.inclusions.Note.{Note}
 use Rattle.unroll.specs.declared.marks.Mark.{Mark}
-use Rattle.unroll.specs.TargetsMade.{records_named}
-use Rattle.unroll.specs.Totals.{observable_total}
+use Rattle.circuit_walk.specs.TargetsMade.{records_named}
+use Rattle.circuit_walk.specs.Totals.{observable_total}
 use Rattle.unroll.specs.private.Counted.{first_far_from}
 use Rattle.unroll.specs.private.Including.{HaveTurned, first_before, including, is_noted, note_of, notes_of, observable_named, operation_notes, record_moved, with_added, with_included, with_later, with_more}
 use Rattle.unroll.specs.private.MadeTotals.{record_count, record_total}

@@ -14,10 +14,10 @@ use Rattle.stim_parser.specs.declared.operation.Operation.TheVariants.{Applies, 
 use Rattle.stim_parser.specs.declared.target.Target.{Target}
 use Rattle.stim_parser.specs.Verdicts.{Instruction}
 use Rattle.unroll.specs.private.Made.{measure_step, operation_steps, pair_step, paired, record_back, recording, reset_step}
-use Rattle.unroll.specs.StepsMade.{flip_of}
+use Rattle.circuit_walk.specs.StepsMade.{flip_of}
 use Rattle.stim_parser.specs.Limits.{products_of}
 use Rattle.unroll.specs.private.Steps.{instruction_steps}
-use Rattle.unroll.specs.Totals.{target_count}
+use Rattle.circuit_walk.specs.Totals.{target_count}
 use Rattle.unroll.specs.private.MadeTotals.{fault_count, faults_counted, has_argument, made_count, steps_made, collapse_count, collapses_made, record_count, records_made, step_count}
 use Rattle.unroll.proofs.StepSums.{collapses_by, counts_of, faults_by, one_by, records_by, sum-each, sum-faults, sum-gates, sum-products}
 

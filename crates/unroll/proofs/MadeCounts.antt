@@ -15,10 +15,10 @@ use Rattle.step_model.specs.Listing.{Collapse, ListedStep, is_collapse, step_rec
 use Rattle.step_model.specs.WellFormed.{collapse_count}
 use Rattle.step_model.specs.WellFormed as formed
 use Rattle.stim_parser.specs.Verdicts.{Instruction}
-use Rattle.unroll.specs.Before.{Before}
+use Rattle.circuit_walk.specs.Before.{Before}
 use Rattle.unroll.specs.private.Kept.{products_in}
 use Rattle.unroll.specs.private.MadeTotals.{fault_count, record_count}
-use Rattle.unroll.specs.Meaning.{after, made_of, new_faults, new_records, new_steps}
+use Rattle.circuit_walk.specs.Meaning.{after, made_of, new_faults, new_records, new_steps}
 use Rattle.unroll.specs.private.Steps.{instruction_steps}
 use Rattle.unroll.proofs.InstructionCounts.{instruction-records}
 use Rattle.unroll.proofs.MeaningFaults.{faults-counted}

@@ -17,15 +17,15 @@ use Rattle.stim_parser.specs.declared.operation.Operation.{Operation}
 use Rattle.stim_parser.specs.declared.operation.Operation.TheVariants.{Applies as Gates, Measurement, QubitReset, MeasurementReset, ProductMeasurement, PauliError, CorrelatedError}
 use Rattle.stim_parser.specs.declared.target.Target.{Target}
 use Rattle.stim_parser.specs.Verdicts.{Instruction}
-use Rattle.unroll.specs.FaultsMade.{fault_with, faults_made, flips_made}
+use Rattle.circuit_walk.specs.FaultsMade.{fault_with, faults_made, flips_made}
 use Rattle.unroll.specs.private.Kept.{entry_of, flip_entries, operation_entries}
 use Rattle.unroll.specs.private.Kept as kept
 use Rattle.unroll.specs.private.Made.{fault_steps, measure_step, one_step, operation_steps, pair_step, pair_steps, paired, product_steps, record_back, recording, reset_step}
 use Rattle.unroll.specs.private.MadeTotals.{fault_count, faults_counted, record_count, records_made}
-use Rattle.unroll.specs.StepsMade.{flip_of}
-use Rattle.unroll.specs.Targets.{is_product_inverted, term_at, term_of}
+use Rattle.circuit_walk.specs.StepsMade.{flip_of}
+use Rattle.circuit_walk.specs.Targets.{is_product_inverted, term_at, term_of}
 use Rattle.stim_parser.specs.Limits.{products_of}
-use Rattle.unroll.specs.Totals.{first_argument, target_count}
+use Rattle.circuit_walk.specs.Totals.{first_argument, target_count}
 use Rattle.unroll.proofs.PartPlaces.{StandsAt, stands_behind}
 
 -- the collapse of a product, whose letters are kept at p

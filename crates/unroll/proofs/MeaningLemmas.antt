@@ -21,16 +21,16 @@ use Rattle.stim_parser.specs.Numbers.{value_of}
 use Rattle.stim_parser.specs.Trees.{Tree}
 use Rattle.stim_lexer.specs.Trees.{Nothing, Then, Block}
 use Rattle.stim_parser.specs.Verdicts.{Instruction}
-use Rattle.unroll.specs.Before.{Before}
+use Rattle.circuit_walk.specs.Before.{Before}
 use Rattle.unroll.specs.private.Coordinates.{coordinates_from, coordinates_of}
 use Rattle.unroll.specs.private.Detectors.{detectors_from, detectors_of}
-use Rattle.unroll.specs.FaultsMade.{faults_made}
+use Rattle.circuit_walk.specs.FaultsMade.{faults_made}
 use Rattle.unroll.specs.private.Kept.{entries_of, kept_entries, kept_products, products_in}
-use Rattle.unroll.specs.Meaning.{after, at_start, listing_of, made_in, made_of, new_faults, new_steps}
+use Rattle.circuit_walk.specs.Meaning.{after, at_start, listing_of, made_in, made_of, new_faults, new_steps}
 use Rattle.unroll.specs.private.Observables.{added_from, observables_of}
 use Rattle.unroll.specs.private.Steps.{instruction_steps, steps_from, steps_of}
-use Rattle.unroll.specs.TargetsMade.{adds_to, operation_adds, operation_coordinates, operation_detectors, records_named}
-use Rattle.unroll.specs.Totals.{first_argument, observable_total, observables_to, qubit_total}
+use Rattle.circuit_walk.specs.TargetsMade.{adds_to, operation_adds, operation_coordinates, operation_detectors, records_named}
+use Rattle.circuit_walk.specs.Totals.{first_argument, observable_total, observables_to, qubit_total}
 use Rattle.unroll.specs.private.MadeTotals.{collapse_total, detector_total, record_total}
 use Rattle.unroll.proofs.InstructionCounts.{instruction-faults, instruction-records}
 use Rattle.unroll.proofs.MadeCounts.{after-records, after_all, after_all-append, listed-collapses, listed-records, made-records, made_of-append}

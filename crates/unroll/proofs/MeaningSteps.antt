@@ -14,11 +14,11 @@ use Rattle.stim_parser.specs.declared.operation.Operation.{Operation}
 use Rattle.stim_parser.specs.declared.operation.Operation.TheVariants.{Applies, Measurement, QubitReset, MeasurementReset, ProductMeasurement, PauliError, CorrelatedError}
 use Rattle.stim_parser.specs.declared.target.Target.{Target}
 use Rattle.stim_parser.specs.declared.target.Target.TheVariants.{Plain, Inverted, Back, Pauli, Star}
-use Rattle.unroll.specs.Before.{Before}
+use Rattle.circuit_walk.specs.Before.{Before}
 use Rattle.unroll.specs.private.Kept.{operation_products}
 use Rattle.unroll.specs.private.Made.{fault_steps, measure_step, one_step, operation_steps, pair_step, pair_steps, product_steps, recording, reset_step}
-use Rattle.unroll.specs.StepsMade.{flip_of, numbered_from, operation_made, pair_made, pairs_made}
-use Rattle.unroll.specs.Targets.{is_inverted, is_product_inverted, term_of}
+use Rattle.circuit_walk.specs.StepsMade.{flip_of, numbered_from, operation_made, pair_made, pairs_made}
+use Rattle.circuit_walk.specs.Targets.{is_inverted, is_product_inverted, term_of}
 use Rattle.stim_parser.specs.Limits.{products_of, qubit_of}
 use Rattle.unroll.proofs.InstructionCounts.{pair-none}
 use Rattle.unroll.proofs.PartPlaces.{StandsAt, stands_behind}

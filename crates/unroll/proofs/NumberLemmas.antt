@@ -22,7 +22,7 @@ use Rattle.stim_parser.specs.Verdicts.{Instruction, circuit_table}
 use Rattle.stim_parser.proofs.MarkLemmas.{marked_at}
 use Rattle.unroll.specs.private.Items.{IsSound}
 use Rattle.unroll.specs.private.Numbered.{IsFlipNumber, IsItemNumber, IsNumberOf, IsOperationNumber, chance_from}
-use Rattle.unroll.specs.Totals.{step_total, first_argument}
+use Rattle.circuit_walk.specs.Totals.{step_total, first_argument}
 use Rattle.unroll.proofs.ItemLemmas.{fits_at}
 use Rattle.unroll.proofs.RoomLemmas.{counted_once, counted_once-tree}
 

@@ -13,7 +13,7 @@ use Rattle.stim_parser.specs.Judged.{items_of}
 use Rattle.stim_parser.proofs.NumberArguments.{NamesNumber, names_number}
 use Rattle.stim_lexer.specs.Reached.{instructions_of}
 use Rattle.unroll.specs.private.Including.{item_observables, named_to}
-use Rattle.unroll.specs.Totals.{observable_total, observables_to}
+use Rattle.circuit_walk.specs.Totals.{observable_total, observables_to}
 use Rattle.unroll.specs.private.MadeTotals.{observables_over}
 use Rattle.unroll.proofs.PassLemmas.{drop_got}
 use Rattle.unroll.proofs.QubitsWithin.{greatest-append}

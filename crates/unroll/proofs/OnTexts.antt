@@ -10,9 +10,9 @@ use Rattle.stim_parser.specs.Limits.{has_wrong_arguments, has_wrong_probability,
 use Rattle.stim_parser.specs.Pieces.{pieces_of}
 use Rattle.stim_parser.specs.Targets.{target_of, targets_in}
 use Rattle.stim_parser.specs.Verdicts.{line_targets}
-use Rattle.unroll.specs.Meaning.{made_of}
+use Rattle.circuit_walk.specs.Meaning.{made_of}
 use Rattle.unroll.specs.private.Counted.{first_far_from}
-use Rattle.unroll.specs.Refusals.{first_observable_beyond}
+use Rattle.circuit_walk.specs.Refusals.{first_observable_beyond}
 use Rattle.stim_lexer.specs.Reached.{total}
 
 unfoldable pub on_texts : ⊤

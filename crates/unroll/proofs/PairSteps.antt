@@ -13,8 +13,8 @@ use Rattle.stim_parser.specs.declared.target.Target.{Target}
 use Rattle.stim_parser.specs.declared.target.Target.TheVariants.{Plain, Back}
 use Rattle.stim_parser.specs.Limits.{is_back, is_plain, is_plain_or_back, is_same_qubit, some_pair}
 use Rattle.unroll.specs.private.Made.{pair_step, pair_steps}
-use Rattle.unroll.specs.StepsMade.{fed_letter}
-use Rattle.unroll.specs.Totals.{qubits_to}
+use Rattle.circuit_walk.specs.StepsMade.{fed_letter}
+use Rattle.circuit_walk.specs.Totals.{qubits_to}
 use Rattle.unroll.specs.private.MadeTotals.{qubits_named}
 
 -- ---- each form of pairs is one in which either one may be a record

@@ -18,7 +18,7 @@ use Rattle.stim_parser.proofs.FewArguments.{HasFewCoordinates, has_few_coordinat
 use Rattle.unroll.specs.declared.offsets.Offset.{Offset}
 use Rattle.unroll.specs.private.Coordinates.{coordinates_from, coordinates_of}
 use Rattle.stim_parser.specs.Offsets.{moved, shifted}
-use Rattle.unroll.specs.TargetsMade.{offset_after, operation_coordinates}
+use Rattle.circuit_walk.specs.TargetsMade.{offset_after, operation_coordinates}
 use Rattle.stim_lexer.specs.Reached.{copies, reached}
 use Rattle.unroll.specs.private.Gathered.{Gathered, gathering, given, place_behind}
 use Rattle.stim_lexer.specs.Passes.{behind}

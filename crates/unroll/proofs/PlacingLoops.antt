@@ -23,7 +23,7 @@ use Rattle.flat_lists.specs.Turns.{later}
 use Rattle.unroll.specs.private.Gathered.{Gathered, closed, gathering, mark_of, place_behind, stepped}
 use Rattle.stim_lexer.specs.Passes.{behind, opened}
 use Rattle.unroll.specs.private.Placing.{down_of, downs, numbers_of, placing, raised_by, turned_by, turned_on, unmoved, unplaced, up_of, ups}
-use Rattle.unroll.specs.Totals.{step_total}
+use Rattle.circuit_walk.specs.Totals.{step_total}
 use Rattle.unroll.proofs.CoordinateFits.{HaveCoordinates, coordinates_fit, few-reached, have-coordinates}
 use Rattle.unroll.proofs.CountLoops.{length-turned}
 use Rattle.unroll.proofs.GatherLemmas.{IsGathering, gathering-begins, gathering-does, gathering-done, gathering-ends, gathering-first, gathering-fits, gathering-room, gathering-some, run}

@@ -14,7 +14,7 @@ use Rattle.step_model.specs.declared.step.Term.{Term}
 use Rattle.unroll.specs.private.Made.{product_steps, recording}
 use Rattle.stim_parser.specs.Limits.{products_of}
 use Rattle.stim_parser.specs.Products.{is_joining}
-use Rattle.unroll.specs.Targets.{is_inverted, is_product_inverted, term_of}
+use Rattle.circuit_walk.specs.Targets.{is_inverted, is_product_inverted, term_of}
 use Rattle.unroll.specs.private.Pushed.{FollowsFactor, IsSmall, carried_steps}
 
 -- ---- what follows a factor, where that is a star

@@ -14,8 +14,8 @@ use Rattle.stim_parser.specs.Circuits.{target_is_written}
 use Rattle.stim_parser.specs.Products.{are_factors, begins_with_factor, goes_on_with, has_product_of_one, is_factor, is_factor_at, is_joining, names_again}
 use Rattle.stim_parser.specs.Limits.{are_products, names_twice, products_of, qubit_of}
 use Rattle.stim_parser.proofs.ProductWords.{first-onto, first_product, products-first, twice}
-use Rattle.unroll.specs.Targets.{pauli_letter, term_of}
-use Rattle.unroll.specs.Totals.{qubits_to}
+use Rattle.circuit_walk.specs.Targets.{pauli_letter, term_of}
+use Rattle.circuit_walk.specs.Totals.{qubits_to}
 use Rattle.unroll.specs.private.MadeTotals.{qubits_named}
 use Rattle.unroll.proofs.ProductLemmas.{some_products}
 

@@ -12,8 +12,8 @@ use Rattle.stim_parser.specs.Limits.{are_of_form, has_same_qubit, products_of}
 use Rattle.stim_parser.specs.Trees.{Tree}
 use Rattle.stim_parser.specs.Verdicts.{Instruction}
 use Rattle.unroll.specs.private.Kept.{kept_products, operation_products, products_in}
-use Rattle.unroll.specs.Targets.{term_of}
-use Rattle.unroll.specs.Totals.{qubit_total}
+use Rattle.circuit_walk.specs.Targets.{term_of}
+use Rattle.circuit_walk.specs.Totals.{qubit_total}
 use Rattle.unroll.proofs.EntriesFit.{factors_fit}
 use Rattle.unroll.proofs.KeptParts.{all_parts}
 use Rattle.unroll.proofs.ProductsApart.{IsProduct, all_apart}

@@ -6,7 +6,7 @@ use Rattle.stim_parser.specs.Trees.{Tree}
 use Rattle.stim_lexer.specs.Trees.{Nothing, Then, Block}
 use Rattle.stim_parser.specs.Verdicts.{Instruction}
 use Rattle.stim_lexer.specs.Reached.{greatest_by, instructions_of}
-use Rattle.unroll.specs.Totals.{qubit_total}
+use Rattle.circuit_walk.specs.Totals.{qubit_total}
 use Rattle.unroll.specs.private.MadeTotals.{qubits_named, qubits_over}
 use Rattle.unroll.proofs.FarLemmas.{EachOf}
 

@@ -14,11 +14,11 @@ use Rattle.stim_lexer.specs.Trees.{Nothing, Then, Block}
 use Rattle.stim_parser.specs.Verdicts.{Instruction}
 use Rattle.unroll.specs.private.Coordinates.{coordinates_from, coordinates_of}
 use Rattle.unroll.specs.private.Detectors.{detectors_from, detectors_of}
-use Rattle.unroll.specs.TargetsMade.{operation_detectors, offset_after, operation_coordinates}
+use Rattle.circuit_walk.specs.TargetsMade.{operation_detectors, offset_after, operation_coordinates}
 use Rattle.stim_lexer.specs.Reached.{copies, reached, instructions_of, total}
 use Rattle.unroll.specs.private.Observables.{added_from, observables_of}
-use Rattle.unroll.specs.Refusals.{first_observable_beyond, most_observables}
-use Rattle.unroll.specs.Totals.{observable_total, observables_to}
+use Rattle.circuit_walk.specs.Refusals.{first_observable_beyond, most_observables}
+use Rattle.circuit_walk.specs.Totals.{observable_total, observables_to}
 use Rattle.unroll.specs.private.MadeTotals.{observables_over, detector_count, detector_total, detectors_made, record_count}
 use Rattle.unroll.proofs.RefusalLemmas.{not_first}
 

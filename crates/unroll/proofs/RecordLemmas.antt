@@ -17,7 +17,7 @@ use Rattle.stim_parser.specs.Verdicts.{Instruction}
 use Rattle.stim_parser.proofs.RecordTargets.{NamesRecords, names_records}
 use Rattle.stim_lexer.specs.Reached.{copies, reached, total}
 use Rattle.unroll.specs.private.Gathered.{Gathering, given, place_behind}
-use Rattle.unroll.specs.Refusals.{reaches_far}
+use Rattle.circuit_walk.specs.Refusals.{reaches_far}
 use Rattle.unroll.specs.private.Counted.{first_far_from}
 use Rattle.unroll.specs.private.MadeTotals.{record_count}
 use Rattle.unroll.proofs.GatherLemmas.{AreSteady, IsSteady}

@@ -14,11 +14,11 @@ use Rattle.stim_parser.specs.Trees.{Tree}
 use Rattle.stim_lexer.specs.Trees.{Nothing, Then, Block}
 use Rattle.stim_parser.specs.Verdicts.{Instruction}
 use Rattle.unroll.specs.private.Detectors.{detectors_from, detectors_of}
-use Rattle.unroll.specs.TargetsMade.{operation_detectors, records_named}
+use Rattle.circuit_walk.specs.TargetsMade.{operation_detectors, records_named}
 use Rattle.stim_lexer.specs.Reached.{copies, reached}
 use Rattle.unroll.specs.private.Observables.{added_from, instruction_adds, observables_of}
 use Rattle.unroll.specs.private.Counted.{first_far_from}
-use Rattle.unroll.specs.Totals.{observable_total, observables_to}
+use Rattle.circuit_walk.specs.Totals.{observable_total, observables_to}
 use Rattle.unroll.specs.private.MadeTotals.{record_count, record_total}
 use Rattle.unroll.proofs.ReachedCounts.{sum-reached}
 use Rattle.unroll.proofs.RecordLemmas.{AreBack, AreNear, IsNear, near-tree}

@@ -8,9 +8,9 @@ use Rattle.step_model.specs.declared.fault.Cause.TheVariants as cause
 use Rattle.stim_lexer.specs.Texts.{refused}
 use Rattle.stim_parser.specs.Trees.{Tree}
 use Rattle.stim_lexer.specs.Reached.{instructions_of}
-use Rattle.unroll.specs.Refusals.{first_observable_beyond, has_many_steps, most_collapses, most_detectors, most_records, most_steps, of_circuit}
+use Rattle.circuit_walk.specs.Refusals.{first_observable_beyond, has_many_steps, most_collapses, most_detectors, most_records, most_steps, of_circuit}
 use Rattle.unroll.specs.private.Counted.{counts_many_detectors, counts_many_records, first_far_from, refusal_counted}
-use Rattle.unroll.specs.Totals.{step_total}
+use Rattle.circuit_walk.specs.Totals.{step_total}
 use Rattle.unroll.specs.private.MadeTotals.{collapse_total, detector_total, record_total}
 
 pub record IsWithinLimits (t : Tree) : Type 0 where

@@ -19,7 +19,7 @@ use Rattle.unroll.specs.private.Kept.{entries_of, kept_entries, kept_products, p
 use Rattle.unroll.specs.private.MadeTotals.{record_total}
 use Rattle.unroll.specs.private.Named.{KeepsAs, renamed}
 use Rattle.unroll.specs.private.Steps.{instruction_steps, steps_of}
-use Rattle.unroll.specs.Totals.{step_total}
+use Rattle.circuit_walk.specs.Totals.{step_total}
 use Rattle.unroll.proofs.DraftLemmas.{IsDrafting, Makes, drafting-can, drafting-done, drafting-first, drafting-next, nothing_drafted, with_instruction}
 use Rattle.unroll.proofs.KeptNames.{keeps-count, keeps-none, keeps-then}
 

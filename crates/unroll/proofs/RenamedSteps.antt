@@ -22,8 +22,8 @@ use Rattle.unroll.specs.private.Kept.{entry_at, error_entries, flip_entries, ope
 use Rattle.unroll.specs.private.Made.{fault_steps, measure_step, one_step, operation_steps, pair_steps, paired, plain_steps, product_steps, record_back, reset_step}
 use Rattle.unroll.specs.private.Named.{KeepsAs, name_at, renamed}
 use Rattle.unroll.specs.private.Pushed.{Adds, AddsFaults, NamesFlip}
-use Rattle.unroll.specs.StepsMade.{flip_of}
-use Rattle.unroll.specs.Totals.{first_argument}
+use Rattle.circuit_walk.specs.StepsMade.{flip_of}
+use Rattle.circuit_walk.specs.Totals.{first_argument}
 use Rattle.unroll.proofs.KeptNames.{keeps-count, keeps-then}
 
 -- ---- steps without errors

@@ -11,9 +11,9 @@ use Rattle.stim_lexer.specs.Trees.{Nothing, Then, Block, InstructionLine, BlockS
 use Rattle.stim_parser.specs.Judged.{items_of}
 use Rattle.stim_parser.specs.Verdicts.{Instruction}
 use Rattle.unroll.specs.private.Kept.{operation_products, products_in}
-use Rattle.unroll.specs.Targets.{term_of}
+use Rattle.circuit_walk.specs.Targets.{term_of}
 use Rattle.stim_parser.specs.Limits.{products_of}
-use Rattle.unroll.specs.Totals.{step_total, target_count}
+use Rattle.circuit_walk.specs.Totals.{step_total, target_count}
 use Rattle.unroll.specs.private.MadeTotals.{step_count}
 use Rattle.stim_lexer.specs.Reached.{total}
 use Rattle.unroll.proofs.FarLemmas.{more_turns}

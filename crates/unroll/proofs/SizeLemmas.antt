@@ -19,8 +19,8 @@ use Rattle.stim_parser.specs.Verdicts.{Instruction}
 use Rattle.stim_parser.proofs.NumberArguments.{NamesNumber, names_number}
 use Rattle.stim_lexer.specs.Reached.{reached, total}
 use Rattle.stim_lexer.specs.Trees.{Nothing, Then, Block, InstructionLine, BlockStart, BlockEnd}
-use Rattle.unroll.specs.TargetsMade.{record_named, records_named}
-use Rattle.unroll.specs.Totals.{observable_total, observables_to, step_total, target_count}
+use Rattle.circuit_walk.specs.TargetsMade.{record_named, records_named}
+use Rattle.circuit_walk.specs.Totals.{observable_total, observables_to, step_total, target_count}
 use Rattle.unroll.specs.private.Including.{at_most_32, at_most_64, grown, named_to, with_counted, with_size}
 use Rattle.unroll.specs.private.MadeTotals.{record_count, step_count}
 use Rattle.unroll.specs.private.Observables.{added_from, instruction_adds, observables_of}

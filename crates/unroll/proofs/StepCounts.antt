@@ -11,7 +11,7 @@ use Rattle.stim_lexer.specs.Trees.{Nothing, Then, Block}
 use Rattle.stim_parser.specs.Verdicts.{Instruction}
 use Rattle.unroll.specs.private.Kept.{entries_of, kept_entries, kept_products, products_in}
 use Rattle.unroll.specs.private.Steps.{instruction_steps, steps_from, steps_of}
-use Rattle.unroll.specs.Totals.{step_total}
+use Rattle.circuit_walk.specs.Totals.{step_total}
 use Rattle.stim_lexer.specs.Reached.{total}
 use Rattle.unroll.specs.private.MadeTotals.{fault_count, fault_total, made_count, made_total, collapse_count, collapse_total, record_count, record_total, step_count}
 use Rattle.unroll.proofs.InstructionCounts.{few-faulty, few-made, instruction-collapses, instruction-faults, instruction-made, instruction-records}

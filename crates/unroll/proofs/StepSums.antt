@@ -12,7 +12,7 @@ use Rattle.programs.specs.Numbering.{counts_after, counts_over, made_by}
 use Rattle.programs.specs.Trees.{repeated}
 use Rattle.stim_parser.specs.declared.target.Target.{Target}
 use Rattle.unroll.specs.private.Made.{fault_steps, gate_steps, one_step, pair_step, pair_steps, product_steps, recording}
-use Rattle.unroll.specs.Targets.{is_product_inverted}
+use Rattle.circuit_walk.specs.Targets.{is_product_inverted}
 
 -- how many records, collapses, faults and steps a step makes
 abbrev pub records_by : TextStep → ℕ

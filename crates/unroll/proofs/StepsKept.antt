@@ -20,11 +20,11 @@ use Rattle.stim_parser.specs.Trees.{Tree}
 use Rattle.stim_lexer.specs.Trees.{Nothing, Then, Block}
 use Rattle.stim_lexer.specs.Reached.{instructions_of}
 use Rattle.unroll.specs.private.Kept.{entries_of, entry_at, entry_of, flip_entries, kept_entries, kept_products, operation_entries, operation_products, products_in}
-use Rattle.unroll.specs.Totals.{first_argument}
+use Rattle.circuit_walk.specs.Totals.{first_argument}
 use Rattle.unroll.specs.private.Made.{fault_steps, gate_steps, measure_step, one_step, operation_steps, pair_step, pair_steps, paired, product_steps, record_back, reset_step}
-use Rattle.unroll.specs.StepsMade.{flip_of}
+use Rattle.circuit_walk.specs.StepsMade.{flip_of}
 use Rattle.stim_parser.specs.Limits.{products_of}
-use Rattle.unroll.specs.Targets.{term_of}
+use Rattle.circuit_walk.specs.Targets.{term_of}
 use Rattle.unroll.specs.private.Steps.{instruction_steps, steps_from, steps_of}
 use Rattle.unroll.proofs.PartPlaces.{StandsAt, stands_before, stands_behind, stands_itself}
 use Rattle.unroll.proofs.StepTests.{both_pass, turns_pass}

@@ -15,8 +15,8 @@ use Rattle.stim_lexer.specs.Trees.{Nothing, Then, Block}
 use Rattle.stim_lexer.proofs.CappedSums.{KeepsSum, behind-sum, no_turn, repeated-adds, whole-sum}
 use Rattle.unroll.specs.declared.totals.Totals.{Totals}
 use Rattle.stim_lexer.specs.Passes.{behind}
-use Rattle.unroll.specs.Refusals.{first_observable_beyond, is_before_start, most_observables, reaches_far}
-use Rattle.unroll.specs.Totals.{observables_to}
+use Rattle.circuit_walk.specs.Refusals.{first_observable_beyond, is_before_start, most_observables, reaches_far}
+use Rattle.circuit_walk.specs.Totals.{observables_to}
 use Rattle.unroll.specs.private.Counted.{first_far_from}
 use Rattle.unroll.specs.private.Summed.{AreTotals, capped_sum, greatest, nothing_summed, repeated_sum, summing, totals_after, totals_repeated}
 use Rattle.unroll.specs.private.MadeTotals.{fault_count, made_count, collapse_count, detector_count, listed_count, qubits_named, record_count, step_count}

@@ -21,9 +21,9 @@ use Rattle.stim_parser.specs.Limits.{are_of_form, has_same_qubit, is_plain, is_p
 use Rattle.stim_parser.specs.Trees.{Tree}
 use Rattle.stim_parser.specs.Verdicts.{Instruction}
 use Rattle.unroll.specs.private.Made.{fault_steps, gate_steps, measure_step, one_step, operation_steps, pair_steps, product_steps, reset_step}
-use Rattle.unroll.specs.StepsMade.{flip_of}
+use Rattle.circuit_walk.specs.StepsMade.{flip_of}
 use Rattle.unroll.specs.private.Steps.{instruction_steps, steps_of}
-use Rattle.unroll.specs.Totals.{qubits_to, qubit_total}
+use Rattle.circuit_walk.specs.Totals.{qubits_to, qubit_total}
 use Rattle.unroll.specs.private.MadeTotals.{qubits_named}
 use Rattle.unroll.proofs.PairSteps.{from_plain, from_record_first, of_pairs, pairs_fit}
 use Rattle.unroll.proofs.QubitsWithin.{FitsOn, circuit_fits_on}

@@ -16,7 +16,7 @@ use Rattle.stim_parser.specs.Texts.{circuits}
 use Rattle.stim_parser.specs.Trees.{Tree}
 use Rattle.stim_parser.proofs.CircuitFits.{reading_fits}
 use Rattle.unroll.specs.private.Counted.{refusal_counted}
-use Rattle.unroll.specs.Meaning.{listing_of}
+use Rattle.circuit_walk.specs.Meaning.{listing_of}
 use Rattle.unroll.specs.Programs.{program_in}
 use Rattle.unroll.proofs.FarLines.{refused-as-counted}
 use Rattle.unroll.proofs.OnTexts.{on_texts}

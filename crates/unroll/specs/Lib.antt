@@ -1,11 +1,3 @@
-pub mod Totals
-pub mod Refusals
 pub mod Programs
-pub mod Before
-pub mod FaultsMade
-pub mod Meaning
-pub mod StepsMade
-pub mod Targets
-pub mod TargetsMade
 pub mod Untargeted
 pub mod private

@@ -8,8 +8,8 @@ use Rattle.step_model.specs.Faults.{unless, ◌>>=◌}
 use Rattle.stim_lexer.specs.Flat.{tree_of}
 use Rattle.stim_parser.specs.Texts.{items_in}
 use Rattle.stim_parser.specs.Trees.{Tree}
-use Rattle.unroll.specs.Meaning.{listing_of}
-use Rattle.unroll.specs.Refusals.{circuit_refusal}
+use Rattle.circuit_walk.specs.Meaning.{listing_of}
+use Rattle.circuit_walk.specs.Refusals.{circuit_refusal}
 
 -- the program of a tree, or its refusal
 abbrev pub program_of : Tree → Result Listing Fault

@@ -5,7 +5,7 @@ ghost use Rattle.unroll.specs.private.Counted.{refusal_counted};
 ghost use Rattle.unroll.specs.private.Summed.{AreTotals};
 ghost use Rattle.unroll.specs.Programs.{program_of};
 ghost use Rattle.unroll.specs.Untargeted.{LacksTargets};
-ghost use Rattle.unroll.specs.Refusals.{circuit_refusal};
+ghost use Rattle.circuit_walk.specs.Refusals.{circuit_refusal};
 
 use crate::coordinates::coordinates_of;
 use crate::detectors::detectors_of;

@@ -3,7 +3,7 @@ ghost use Rattle.stim_parser.specs.Circuits.{Fits};
 ghost use Rattle.stim_parser.specs.Kept.{instruction_in};
 ghost use Rattle.unroll.specs.private.Coordinates.{coordinates_of};
 ghost use Rattle.unroll.specs.private.Placing.{placing};
-ghost use Rattle.unroll.specs.Totals.{step_total};
+ghost use Rattle.circuit_walk.specs.Totals.{step_total};
 ghost use Rattle.unroll.specs.private.MadeTotals.{detector_total};
 
 use crate::marks::Mark;

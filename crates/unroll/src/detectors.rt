@@ -1,20 +1,19 @@
 ghost use Rattle.std.specs.Prelude.{◌≡◌, ◌+◌, ◌*◌, ◌<◌, ◌^◌, ◌++◌, All, None, drop, IfOk, OnOk};
-ghost use Rattle.stim_parser.specs.Kept.{list_in};
 ghost use Rattle.unroll.specs.private.Detecting.{records_moved};
 ghost use Rattle.unroll.specs.private.Detectors.{detectors_of};
-ghost use Rattle.unroll.specs.TargetsMade.{operation_detectors, record_named, records_named};
+ghost use Rattle.circuit_walk.specs.TargetsMade.{operation_detectors, record_named, records_named};
 ghost use Rattle.flat_lists.specs.Turns.{later};
 ghost use Rattle.unroll.specs.private.Counted.{first_far_from};
 ghost use Rattle.unroll.specs.private.MadeTotals.{detector_total, record_total};
 
 use crate::counts::{records_behind, records_made};
 use crate::marks::Mark;
-use crate::targets::target_count;
+use crate::targets::{split_first, target_count};
 use arrayvec::ArrayVec;
 use flat_lists::FlatLists;
 use std::alloc::{AllocError, Allocator};
 use stim_lexer::{LEVELS, OpenBlock};
-use stim_parser::{Circuit, Item, Operation, Target, Targets};
+use stim_parser::{Circuit, Item, Operation, Target, TargetWord};
 
 /// The record that a target names after this many records; the first record where it reaches back before that.
 pub(crate) fn record_named(records: u64, target: Target) -> u32
@@ -22,7 +21,7 @@ pub(crate) fn record_named(records: u64, target: Target) -> u32
     ensures { result ≡ record_named records target }
 {
     match target {
-        Target::Back(k) => records.saturating_sub(k.value()) as u32,
+        Target::Back(k) => records.saturating_sub(k) as u32,
         _ => 0,
     }
 }
@@ -31,14 +30,14 @@ pub(crate) fn record_named(records: u64, target: Target) -> u32
 fn name_records<A: Allocator + Copy>(
     named: &mut Vec<u32, A>,
     records: u64,
-    targets: Targets<'_>,
+    targets: &[TargetWord],
 ) -> Result<(), AllocError>
     requires { records < 2 ^ 32 }
-    ensures { OnOk result (named.new.items ≡ records_named records (list_in targets.entry)) }
+    ensures { OnOk result (named.new.items ≡ records_named records targets.now) }
 {
     named.clear();
     let mut rest = targets;
-    while let Some((target, after)) = rest.split_first() {
+    while let Some((target, after)) = split_first(rest) {
         named.push(record_named(records, target))?;
         rest = after;
     }
@@ -51,12 +50,12 @@ fn push_detector<A: Allocator + Copy>(
     detectors: &mut FlatLists<u32, A>,
     records: u64,
     operation: Operation,
-    targets: Targets<'_>,
+    targets: &[TargetWord],
 ) -> Result<(), AllocError>
     requires { records < 2 ^ 32 }
     ensures { OnOk result
         (detectors.new
-        ≡ detectors.old ++ operation_detectors records operation (list_in targets.entry)) }
+        ≡ detectors.old ++ operation_detectors records operation targets.now) }
 {
     match operation {
         Operation::DetectorDeclaration => {

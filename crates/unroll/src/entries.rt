@@ -1,21 +1,20 @@
 ghost use Rattle.std.specs.Prelude.{◌≡◌, ◌<◌, ◌≤◌, [], ◌∷◌, All, length, map, slice_index_or, IfOk, OnOk};
 ghost use Rattle.step_model.specs.Chances.{no_chance};
-ghost use Rattle.stim_parser.specs.Kept.{instruction_in, list_in};
+ghost use Rattle.stim_parser.specs.Kept.{instruction_in};
 ghost use Rattle.stim_parser.specs.Numbers.{most_qubits};
 ghost use Rattle.programs.specs.Entries.{entry_from};
 ghost use Rattle.unroll.specs.private.Kept.{error_entries, flip_entries, record_entries};
-ghost use Rattle.unroll.specs.Targets.{pauli_letter, term_at, term_of};
+ghost use Rattle.circuit_walk.specs.Targets.{pauli_letter, term_at, term_of};
 ghost use Rattle.unroll.specs.private.Numbered.{IsFlipNumber, IsInstructionNumber};
 ghost use Rattle.unroll.specs.private.Pushed.{AddsFaults, IsSmall, NamesFlip};
-ghost use Rattle.unroll.specs.Totals.{qubits_to};
+ghost use Rattle.circuit_walk.specs.Totals.{qubits_to};
 
-use crate::targets::qubit_of;
-use flat_lists::Short;
+use crate::targets::{qubit_of, split_first};
 use pauli_word::Letter;
 use programs::{CircuitBuilder, EntryBuilder, TextStep};
 use std::alloc::{AllocError, Allocator};
 use step_model::Term;
-use stim_parser::{Instruction, Operation, Target, Targets, has_argument};
+use stim_parser::{Instruction, Operation, Target, TargetWord, has_argument};
 
 /// The letter of a target.
 pub(crate) fn pauli_letter(target: Target) -> Letter
@@ -41,70 +40,45 @@ pub(crate) fn term_at(letter: Letter, target: Target) -> Term
 /// Puts the letters of targets, at their qubits, into `terms`, in place of what it held.
 fn name_terms<A: Allocator + Copy>(
     terms: &mut Vec<Term, A>,
-    targets: Targets<'_>,
+    targets: &[TargetWord],
 ) -> Result<(), AllocError>
-    requires { All IsSmall (list_in targets) }
-    ensures { OnOk result (terms.new.items ≡ map term_of (list_in targets.entry)) }
+    requires { All IsSmall targets.now }
+    ensures { OnOk result (terms.new.items ≡ map term_of targets.now) }
 {
     terms.clear();
     let mut rest = targets;
-    while let Some(parts) = rest.split_first() {
+    while let Some(parts) = split_first(rest) {
         terms.push(term_at(pauli_letter(parts.0), parts.0))?;
         rest = parts.1;
     }
     Ok(())
 }
 
-/// Appends a fault of this letter for each of the targets, which have one form.
-#[inline(always)]
-fn push_each_letter<S: Short<Target>, A: Allocator + Copy>(
-    builder: &mut CircuitBuilder<A>,
-    entries: &mut EntryBuilder<'_, A>,
-    number: usize,
-    letter: Letter,
-    targets: &[S],
-) -> Result<(), AllocError>
-    requires small { All IsSmall (map S.long targets.now) }
-    requires there { number < length entries.old.chances }
-    ensures { OnOk result
-        (AddsFaults
-        (map
-        (λ target. entry_from (slice_index_or entries.old.chances number no_chance)
-        (term_at letter target ∷ []))
-        (map S.long targets.now))
-        builder.old builder.new entries.old entries.new) }
-{
-    let mut rest = targets;
-    while let Some((first, after)) = rest.split_first() {
-        let entry = entries.name_letter(number, term_at(letter, first.lengthen()))?;
-        builder.push(TextStep::Fault(entry))?;
-        rest = after;
-    }
-    Ok(())
-}
-
-/// Appends a fault of this letter for each target, of the probability with a number.
+/// Appends a fault of this letter for each of the targets, of the probability with a number.
 fn push_letters<A: Allocator + Copy>(
     builder: &mut CircuitBuilder<A>,
     entries: &mut EntryBuilder<'_, A>,
     number: usize,
     letter: Letter,
-    targets: Targets<'_>,
+    targets: &[TargetWord],
 ) -> Result<(), AllocError>
-    requires small { All IsSmall (list_in targets) }
+    requires small { All IsSmall targets.now }
     requires there { number < length entries.old.chances }
     ensures { OnOk result
         (AddsFaults
         (map
         (λ target. entry_from (slice_index_or entries.old.chances number no_chance)
         (term_at letter target ∷ []))
-        (list_in targets.entry))
+        targets.now)
         builder.old builder.new entries.old entries.new) }
 {
-    match targets {
-        Targets::Short(short) => push_each_letter(builder, entries, number, letter, short),
-        Targets::Long(long) => push_each_letter(builder, entries, number, letter, long),
+    let mut rest = targets;
+    while let Some((first, after)) = split_first(rest) {
+        let entry = entries.name_letter(number, term_at(letter, first))?;
+        builder.push(TextStep::Fault(entry))?;
+        rest = after;
     }
+    Ok(())
 }
 
 /// Appends the faults of an instruction's errors. The mark of the instruction is the number of its probability.
@@ -114,7 +88,7 @@ pub(crate) fn push_errors<A: Allocator + Copy>(
     terms: &mut Vec<Term, A>,
     instruction: Instruction<'_, '_>,
 ) -> Result<(), AllocError>
-    requires small { All IsSmall (list_in instruction.targets) }
+    requires small { All IsSmall instruction.targets.now }
     requires number { IsInstructionNumber entries.old.chances (instruction_in instruction)
         instruction.mark }
     ensures { OnOk result

@@ -1,7 +1,7 @@
 ghost use Rattle.std.specs.Prelude.{◌≡◌, ◌*◌, ◌<◌, ◌≤◌, ◌^◌, ◌++◌, [], All, None, length, replicate, slice_range, OnOk};
-ghost use Rattle.stim_parser.specs.Kept.{instruction_in, list_in};
-ghost use Rattle.unroll.specs.TargetsMade.{records_named};
-ghost use Rattle.unroll.specs.Totals.{observable_total};
+ghost use Rattle.stim_parser.specs.Kept.{instruction_in};
+ghost use Rattle.circuit_walk.specs.TargetsMade.{records_named};
+ghost use Rattle.circuit_walk.specs.Totals.{observable_total};
 ghost use Rattle.unroll.specs.private.Including.{CanMove, HaveTurned, IsOpen, notes_of, records_in, with_closed, with_included, with_more, with_moved, with_noted, with_turned};
 ghost use Rattle.unroll.specs.private.Observables.{observables_of};
 ghost use Rattle.unroll.specs.private.Counted.{first_far_from};
@@ -10,12 +10,12 @@ ghost use Rattle.unroll.specs.private.MadeTotals.{record_total};
 use crate::counts::{records_behind, records_made};
 use crate::detectors::record_named;
 use crate::marks::Mark;
-use crate::targets::target_count;
+use crate::targets::{split_first, target_count};
 use arrayvec::ArrayVec;
 use flat_lists::ListRooms;
 use std::alloc::{AllocError, Allocator};
 use stim_lexer::{LEVELS, OpenBlock};
-use stim_parser::{Circuit, Instruction, Item, Operation, Targets, first_number};
+use stim_parser::{Circuit, Instruction, Item, Operation, TargetWord, first_number};
 
 /// An observable to which an instruction of the text adds, and how many records it had before that.
 #[derive(Clone, Copy)]
@@ -29,16 +29,16 @@ fn include_records<A: Allocator + Copy>(
     lists: &mut ListRooms<u32, A>,
     observable: usize,
     records: u64,
-    targets: Targets<'_>,
+    targets: &[TargetWord],
 ) -> Result<(), AllocError>
     requires there { observable < length lists.old }
     requires few { records < 2 ^ 32 }
     ensures { OnOk result
         (lists.new ≡ with_more observable
-        (records_named records (list_in targets.entry)) lists.old) }
+        (records_named records targets.now) lists.old) }
 {
     let mut rest = targets;
-    while let Some((target, after)) = rest.split_first() {
+    while let Some((target, after)) = split_first(rest) {
         lists.push(observable, record_named(records, target))?;
         rest = after;
     }

@@ -3,8 +3,8 @@ ghost use Rattle.stim_parser.specs.Kept.{instruction_in};
 ghost use Rattle.unroll.specs.private.Including.{named_to};
 ghost use Rattle.unroll.specs.private.Observables.{observables_of};
 ghost use Rattle.unroll.specs.private.Counted.{first_far_from};
-ghost use Rattle.unroll.specs.Refusals.{most_observables};
-ghost use Rattle.unroll.specs.Totals.{observable_total, step_total};
+ghost use Rattle.circuit_walk.specs.Refusals.{most_observables};
+ghost use Rattle.circuit_walk.specs.Totals.{observable_total, step_total};
 ghost use Rattle.unroll.specs.private.MadeTotals.{record_total};
 
 use crate::inclusions::include_all;

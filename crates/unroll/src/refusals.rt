@@ -1,6 +1,6 @@
 ghost use Rattle.std.specs.Prelude.{◌≡◌};
 ghost use Rattle.unroll.specs.private.Counted.{refusal_counted};
-ghost use Rattle.unroll.specs.Refusals.{of_circuit};
+ghost use Rattle.circuit_walk.specs.Refusals.{of_circuit};
 ghost use Rattle.unroll.specs.private.Summed.{AreTotals};
 
 use crate::totals::Totals;

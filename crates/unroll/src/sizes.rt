@@ -1,6 +1,6 @@
 ghost use Rattle.std.specs.Prelude.{◌≡◌, ◌<◌, ◌^◌, length, map, IfOk, OnOk};
 ghost use Rattle.stim_parser.specs.Kept.{instruction_in};
-ghost use Rattle.unroll.specs.Totals.{step_total};
+ghost use Rattle.circuit_walk.specs.Totals.{step_total};
 ghost use Rattle.unroll.specs.private.Including.{with_counted, with_size};
 ghost use Rattle.unroll.specs.private.Observables.{observables_of};
 

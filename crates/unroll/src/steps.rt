@@ -1,21 +1,19 @@
 ghost use Rattle.std.specs.Prelude.{◌≡◌, ◌+◌, ◌<◌, ◌^◌, ◌≤◌, All, length, map, OnOk};
-ghost use Rattle.stim_parser.specs.Kept.{list_in};
 ghost use Rattle.stim_parser.specs.Numbers.{most_qubits};
 ghost use Rattle.pauli_word.specs.Parity.{exclusive_or};
 ghost use Rattle.unroll.specs.private.Made.{pair_step, pair_steps, plain_steps, product_steps, record_back};
-ghost use Rattle.unroll.specs.StepsMade.{fed_letter};
+ghost use Rattle.circuit_walk.specs.StepsMade.{fed_letter};
 ghost use Rattle.stim_parser.specs.Limits.{products_of, qubit_of};
-ghost use Rattle.unroll.specs.Targets.{is_inverted};
+ghost use Rattle.circuit_walk.specs.Targets.{is_inverted};
 ghost use Rattle.unroll.specs.private.Pushed.{Adds, IsSmall, single_step};
-ghost use Rattle.unroll.specs.Totals.{qubits_to, target_count};
+ghost use Rattle.circuit_walk.specs.Totals.{qubits_to, target_count};
 
-use crate::targets::{end_of_factor, qubit_of};
-use flat_lists::Short;
+use crate::targets::{end_of_factor, qubit_of, split_first};
 use gate_table::Gate;
 use pauli_word::Letter;
 use programs::{CircuitBuilder, Recording, TextStep};
 use std::alloc::{AllocError, Allocator};
-use stim_parser::{Operation, Target, Targets};
+use stim_parser::{Operation, Target, TargetWord};
 
 /// What an operation does to each of its targets by itself.
 #[derive(Clone, Copy)]
@@ -65,9 +63,9 @@ fn qubit_and_sign(target: Target) -> (u32, bool)
     ensures sign { result.1 ≡ is_inverted target }
 {
     match target {
-        Target::Plain(q) => (q.value() as u32, false),
-        Target::Inverted(q) => (q.value() as u32, true),
-        Target::Pauli(inverted, _, q) => (q.value() as u32, inverted),
+        Target::Plain(q) => (q as u32, false),
+        Target::Inverted(q) => (q as u32, true),
+        Target::Pauli(inverted, _, q) => (q as u32, inverted),
         Target::Back(_) | Target::Star => (0, false),
     }
 }
@@ -105,10 +103,8 @@ fn back_and_qubit(target: Target) -> (Option<u64>, u32)
     ensures qubit { result.1 ≡ qubit_of target }
 {
     match target {
-        Target::Plain(q) | Target::Inverted(q) | Target::Pauli(_, _, q) => {
-            (None, q.value() as u32)
-        }
-        Target::Back(k) => (Some(k.value()), 0),
+        Target::Plain(q) | Target::Inverted(q) | Target::Pauli(_, _, q) => { (None, q as u32) }
+        Target::Back(k) => (Some(k), 0),
         Target::Star => (None, 0),
     }
 }
@@ -140,75 +136,43 @@ fn pair_step(gate: Gate, a: Target, b: Target) -> TextStep
     }
 }
 
-/// Appends a step for each of the targets, which have one form.
-#[inline(always)]
-fn push_each<S: Short<Target>, A: Allocator + Copy>(
-    builder: &mut CircuitBuilder<A>,
-    single: Single,
-    targets: &[S],
-) -> Result<(), AllocError>
-    requires { All IsSmall (map S.long targets.now) }
-    ensures { OnOk result
-        (Adds (map (single_step single) (map S.long targets.now)) builder.old builder.new) }
-{
-    let mut rest = targets;
-    while let Some((first, after)) = rest.split_first() {
-        builder.push(single_step(single, first.lengthen()))?;
-        rest = after;
-    }
-    Ok(())
-}
-
-#[inline(always)]
+/// Appends a step for each of the targets.
 fn push_singles<A: Allocator + Copy>(
     builder: &mut CircuitBuilder<A>,
     single: Single,
-    targets: Targets<'_>,
+    targets: &[TargetWord],
 ) -> Result<(), AllocError>
-    requires { All IsSmall (list_in targets) }
+    requires { All IsSmall targets.now }
     ensures { OnOk result
-        (Adds (map (single_step single) (list_in targets.entry)) builder.old builder.new) }
-{
-    match targets {
-        Targets::Short(short) => push_each(builder, single, short),
-        Targets::Long(long) => push_each(builder, single, long),
-    }
-}
-
-/// Appends a step for each pair of the targets, which have one form.
-#[inline(always)]
-fn push_each_pair<S: Short<Target>, A: Allocator + Copy>(
-    builder: &mut CircuitBuilder<A>,
-    gate: Gate,
-    targets: &[S],
-) -> Result<(), AllocError>
-    requires { All IsSmall (map S.long targets.now) }
-    ensures { OnOk result
-        (Adds (pair_steps gate (map S.long targets.now)) builder.old builder.new) }
+        (Adds (map (single_step single) targets.now) builder.old builder.new) }
 {
     let mut rest = targets;
-    while let Some((first, others)) = rest.split_first() {
-        let Some((second, after)) = others.split_first() else {
-            return Ok(());
-        };
-        builder.push(pair_step(gate, first.lengthen(), second.lengthen()))?;
+    while let Some((first, after)) = split_first(rest) {
+        builder.push(single_step(single, first))?;
         rest = after;
     }
     Ok(())
 }
 
+/// Appends a step for each pair of the targets.
 fn push_pairs<A: Allocator + Copy>(
     builder: &mut CircuitBuilder<A>,
     gate: Gate,
-    targets: Targets<'_>,
+    targets: &[TargetWord],
 ) -> Result<(), AllocError>
-    requires { All IsSmall (list_in targets) }
-    ensures { OnOk result (Adds (pair_steps gate (list_in targets.entry)) builder.old builder.new) }
+    requires { All IsSmall targets.now }
+    ensures { OnOk result
+        (Adds (pair_steps gate targets.now) builder.old builder.new) }
 {
-    match targets {
-        Targets::Short(short) => push_each_pair(builder, gate, short),
-        Targets::Long(long) => push_each_pair(builder, gate, long),
+    let mut rest = targets;
+    while let Some((first, others)) = split_first(rest) {
+        let Some((second, after)) = split_first(others) else {
+            return Ok(());
+        };
+        builder.push(pair_step(gate, first, second))?;
+        rest = after;
     }
+    Ok(())
 }
 
 /// Appends a collapse of each product; the first product has this number. A collapse is the projective measurement
@@ -217,17 +181,17 @@ fn push_products<A: Allocator + Copy>(
     builder: &mut CircuitBuilder<A>,
     flip: Option<u32>,
     first: u32,
-    targets: Targets<'_>,
+    targets: &[TargetWord],
 ) -> Result<(), AllocError>
-    requires { first + length (products_of (list_in targets)) < 2 ^ 32 }
+    requires { first + length (products_of targets.now) < 2 ^ 32 }
     ensures { OnOk result
         (Adds (product_steps flip first
-        (products_of (list_in targets.entry))) builder.old builder.new) }
+        (products_of targets.now)) builder.old builder.new) }
 {
     let mut product = first;
     let mut inverted = false;
     let mut rest = targets;
-    while let Some((factor, after)) = rest.split_first() {
+    while let Some((factor, after)) = split_first(rest) {
         inverted = exclusive_or(inverted, is_inverted(factor));
         let (joined, behind) = end_of_factor(after);
         rest = behind;
@@ -251,13 +215,13 @@ pub(crate) fn push_steps<A: Allocator + Copy>(
     operation: Operation,
     products: u32,
     flip: Option<u32>,
-    targets: Targets<'_>,
+    targets: &[TargetWord],
 ) -> Result<(), AllocError>
-    requires small { All IsSmall (list_in targets) }
-    requires products { products + target_count operation (list_in targets) < 2 ^ 32 }
+    requires small { All IsSmall targets.now }
+    requires products { products + target_count operation targets.now < 2 ^ 32 }
     ensures { OnOk result
         (Adds (plain_steps operation products flip
-        (list_in targets.entry)) builder.old builder.new) }
+        targets.now) builder.old builder.new) }
 {
     let single = match operation {
         // Gates have a loop of their own, since most targets are theirs.

@@ -1,15 +1,25 @@
-ghost use Rattle.std.specs.Prelude.{◌≡◌, ◌≤◌, All, length, map};
-ghost use Rattle.stim_parser.specs.Kept.{list_in};
+ghost use Rattle.std.specs.Prelude.{◌≡◌, ◌≤◌, [], ◌∷◌, All, length, MatchOption};
 ghost use Rattle.stim_parser.specs.Numbers.{most_qubits};
 ghost use Rattle.stim_parser.specs.Products.{is_joining};
 ghost use Rattle.stim_parser.specs.Limits.{products_of, qubit_of};
 ghost use Rattle.unroll.specs.private.Pushed.{FollowsFactor};
-ghost use Rattle.unroll.specs.Refusals.{is_before_start, reaches_far};
-ghost use Rattle.unroll.specs.Totals.{qubits_to, target_count};
+ghost use Rattle.circuit_walk.specs.Refusals.{is_before_start, reaches_far};
+ghost use Rattle.circuit_walk.specs.Totals.{qubits_to, target_count};
 ghost use Rattle.unroll.specs.private.MadeTotals.{qubits_named};
 
-use flat_lists::Short;
-use stim_parser::{Operation, Target, Targets};
+use stim_parser::{Operation, Target, TargetWord};
+
+/// The first of targets, and those behind it.
+#[inline(always)]
+pub(crate) fn split_first(targets: &[TargetWord]) -> Option<(Target, &[TargetWord])>
+    ensures { MatchOption result (targets.now ≡ [])
+        (λ first. targets.now ≡ first.0 ∷ first.1.now) }
+{
+    match targets {
+        [first, rest @ ..] => Some((first.get(), rest)),
+        [] => None,
+    }
+}
 
 /// One more than the qubit that a target names, and 0 where it names none.
 #[inline(always)]
@@ -18,7 +28,7 @@ fn qubits_to(target: Target) -> u32
     ensures { result ≡ qubits_to target }
 {
     match target {
-        Target::Plain(q) | Target::Inverted(q) | Target::Pauli(_, _, q) => q.value() as u32 + 1,
+        Target::Plain(q) | Target::Inverted(q) | Target::Pauli(_, _, q) => q as u32 + 1,
         Target::Back(_) | Target::Star => 0,
     }
 }
@@ -30,7 +40,7 @@ pub(crate) fn qubit_of(target: Target) -> u32
     ensures { result ≡ qubit_of target }
 {
     match target {
-        Target::Plain(q) | Target::Inverted(q) | Target::Pauli(_, _, q) => q.value() as u32,
+        Target::Plain(q) | Target::Inverted(q) | Target::Pauli(_, _, q) => q as u32,
         Target::Back(_) | Target::Star => 0,
     }
 }
@@ -41,7 +51,7 @@ fn is_far(records: u64, target: Target) -> bool
     ensures { result ≡ is_before_start records target }
 {
     match target {
-        Target::Back(k) => records < k.value(),
+        Target::Back(k) => records < k,
         _ => false,
     }
 }
@@ -54,37 +64,24 @@ pub(crate) struct Reach {
     pub is_far: bool,
 }
 
-/// How far targets of one form reach after this many records.
-#[inline(always)]
-fn reach_in<S: Short<Target>>(records: u64, targets: &[S]) -> Reach
-    requires { All (λ target. qubits_to target ≤ most_qubits) (map S.long targets.now) }
-    ensures qubits { result.qubits ≡ qubits_named (map S.long targets.now) }
-    ensures far { result.is_far ≡ reaches_far records (map S.long targets.now) }
+/// How far targets reach after this many records.
+pub(crate) fn reach_of(records: u64, targets: &[TargetWord]) -> Reach
+    requires { All (λ target. qubits_to target ≤ most_qubits) targets.now }
+    ensures qubits { result.qubits ≡ qubits_named targets.now }
+    ensures far { result.is_far ≡ reaches_far records targets.now }
 {
     let mut qubits: u32 = 0;
     let mut far = false;
     let mut rest = targets;
-    while let Some((first, after)) = rest.split_first() {
-        qubits = qubits.max(qubits_to(first.lengthen()));
-        let goes_far = is_far(records, first.lengthen());
+    while let Some((first, after)) = split_first(rest) {
+        qubits = qubits.max(qubits_to(first));
+        let goes_far = is_far(records, first);
         far = far || goes_far;
         rest = after;
     }
     Reach {
         qubits,
         is_far: far,
-    }
-}
-
-/// How far targets reach after this many records.
-pub(crate) fn reach_of(records: u64, targets: Targets<'_>) -> Reach
-    requires { All (λ target. qubits_to target ≤ most_qubits) (list_in targets) }
-    ensures qubits { result.qubits ≡ qubits_named (list_in targets.entry) }
-    ensures far { result.is_far ≡ reaches_far records (list_in targets.entry) }
-{
-    match targets {
-        Targets::Short(short) => reach_in(records, short),
-        Targets::Long(long) => reach_in(records, long),
     }
 }
 
@@ -100,10 +97,10 @@ fn is_star(target: Target) -> bool
 
 /// Whether a star joins a factor to the next one, and what follows the factor and the star.
 #[inline(always)]
-pub(crate) fn end_of_factor(after: Targets<'_>) -> (bool, Targets<'_>)
-    ensures { FollowsFactor (list_in after.entry) result.0 (list_in result.1) }
+pub(crate) fn end_of_factor(after: &[TargetWord]) -> (bool, &[TargetWord])
+    ensures { FollowsFactor after.now result.0 result.1.now }
 {
-    match after.split_first() {
+    match split_first(after) {
         Some((star, behind)) => {
             if is_star(star) {
                 (!behind.is_empty(), behind)
@@ -117,13 +114,13 @@ pub(crate) fn end_of_factor(after: Targets<'_>) -> (bool, Targets<'_>)
 
 /// How many products targets make. It stands apart, since what it holds would be cleared at each line.
 #[inline(never)]
-fn product_count(targets: Targets<'_>) -> usize
-    ensures value { result ≡ length (products_of (list_in targets.entry)) }
-    ensures few { result ≤ length (list_in targets.entry) }
+fn product_count(targets: &[TargetWord]) -> usize
+    ensures value { result ≡ length (products_of targets.now) }
+    ensures few { result ≤ length targets.now }
 {
     let mut count = 0;
     let mut rest = targets;
-    while let Some((_, after)) = rest.split_first() {
+    while let Some((_, after)) = split_first(rest) {
         let (joined, behind) = end_of_factor(after);
         rest = behind;
         if joined {
@@ -136,9 +133,9 @@ fn product_count(targets: Targets<'_>) -> usize
 
 /// How many targets an operation has in these, a product being one.
 #[inline(always)]
-pub(crate) fn target_count(operation: Operation, targets: Targets<'_>) -> usize
-    ensures value { result ≡ target_count operation (list_in targets.entry) }
-    ensures few { result ≤ length (list_in targets.entry) }
+pub(crate) fn target_count(operation: Operation, targets: &[TargetWord]) -> usize
+    ensures value { result ≡ target_count operation targets.now }
+    ensures few { result ≤ length targets.now }
 {
     match operation {
         Operation::ProductMeasurement => product_count(targets),

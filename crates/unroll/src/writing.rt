@@ -7,7 +7,7 @@ ghost use Rattle.unroll.specs.private.Drafts.{CanWrite, HasRoom, HasWritten, Wri
 ghost use Rattle.unroll.specs.private.Assembled.{IsWritten};
 ghost use Rattle.unroll.specs.private.Numbered.{IsInstructionNumber, IsItemNumber};
 ghost use Rattle.unroll.specs.private.Counted.{first_far_from};
-ghost use Rattle.unroll.specs.Totals.{step_total};
+ghost use Rattle.circuit_walk.specs.Totals.{step_total};
 ghost use Rattle.unroll.specs.private.MadeTotals.{record_total};
 
 use crate::entries::{flip_of, push_errors};

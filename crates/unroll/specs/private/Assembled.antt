@@ -11,7 +11,7 @@ use Rattle.stim_parser.specs.Trees.{Tree}
 use Rattle.unroll.specs.declared.assembly.Lists.{Lists}
 use Rattle.unroll.specs.declared.totals.Totals.{Totals}
 use Rattle.unroll.specs.declared.writing.Written.{Written}
-use Rattle.unroll.specs.Refusals.{circuit_refusal}
+use Rattle.circuit_walk.specs.Refusals.{circuit_refusal}
 use Rattle.unroll.specs.private.Coordinates.{coordinates_of}
 use Rattle.unroll.specs.private.Counted.{refusal_counted}
 use Rattle.unroll.specs.private.Detectors.{detectors_of}
@@ -20,7 +20,7 @@ use Rattle.unroll.specs.private.Named.{KeepsAs, renamed}
 use Rattle.unroll.specs.private.Observables.{observables_of}
 use Rattle.unroll.specs.private.Steps.{steps_of}
 use Rattle.unroll.specs.private.Summed.{AreTotals}
-use Rattle.unroll.specs.Totals.{qubit_total}
+use Rattle.circuit_walk.specs.Totals.{qubit_total}
 use Rattle.unroll.specs.private.MadeTotals.{fault_total, made_total, collapse_total, record_total}
 
 -- the counts of a tree: its records, its collapses and its faults

@@ -6,7 +6,7 @@ use Rattle.std.specs.Prelude.{ℤ, List, [], ◌∷◌, ◌++◌}
 use Rattle.stim_lexer.specs.Reached.{reached}
 use Rattle.stim_parser.specs.Trees.{Tree}
 use Rattle.stim_parser.specs.Verdicts.{Instruction}
-use Rattle.unroll.specs.TargetsMade.{offset_after, operation_coordinates}
+use Rattle.circuit_walk.specs.TargetsMade.{offset_after, operation_coordinates}
 
 -- the coordinates of instructions' detectors, from this offset on
 unfoldable pub coordinates_from : List ℤ → List Instruction → List (List ℤ)

@@ -9,7 +9,7 @@ use Rattle.stim_lexer.specs.Texts.{refused}
 use Rattle.stim_parser.specs.Trees.{Tree}
 use Rattle.stim_lexer.specs.Trees.{Nothing, Then, Block}
 use Rattle.unroll.specs.private.MadeTotals.{collapse_total, detector_total, record_count, record_total}
-use Rattle.unroll.specs.Refusals.{first_observable_beyond, has_many_steps, most_collapses, most_detectors, most_records, of_circuit, reaches_far}
+use Rattle.circuit_walk.specs.Refusals.{first_observable_beyond, has_many_steps, most_collapses, most_detectors, most_records, of_circuit, reaches_far}
 
 -- the first line of a tree that reaches back before the first record, where this many records come before the tree
 unfoldable pub first_far_from : ℕ → Tree → Option ℕ

@@ -3,7 +3,7 @@
 -- too far. (Stim's gate reference, github.com/quantumlib/Stim, doc/gates.md, "DETECTOR".)
 use Rattle.std.specs.Prelude.{ℕ, ◌+◌, ◌-◌, ◌*◌, List, map}
 use Rattle.stim_parser.specs.Verdicts.{Instruction}
-use Rattle.unroll.specs.TargetsMade.{operation_detectors}
+use Rattle.circuit_walk.specs.TargetsMade.{operation_detectors}
 use Rattle.unroll.specs.private.Gathered.{Gathering}
 use Rattle.unroll.specs.private.MadeTotals.{record_count}
 

@@ -5,7 +5,7 @@ use Rattle.std.specs.Prelude.{ℕ, ◌+◌, List, [], ◌∷◌, ◌++◌}
 use Rattle.stim_lexer.specs.Reached.{reached}
 use Rattle.stim_parser.specs.Trees.{Tree}
 use Rattle.stim_parser.specs.Verdicts.{Instruction}
-use Rattle.unroll.specs.TargetsMade.{operation_detectors}
+use Rattle.circuit_walk.specs.TargetsMade.{operation_detectors}
 use Rattle.unroll.specs.private.MadeTotals.{record_count}
 
 -- the detectors of instructions after this many records

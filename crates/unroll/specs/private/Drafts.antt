@@ -16,7 +16,7 @@ use Rattle.unroll.specs.private.Kept.{entries_of, products_in}
 use Rattle.unroll.specs.private.Named.{KeepsAs, renamed}
 use Rattle.unroll.specs.private.Pushed.{IsSmall}
 use Rattle.unroll.specs.private.Steps.{instruction_steps}
-use Rattle.unroll.specs.Totals.{target_count}
+use Rattle.circuit_walk.specs.Totals.{target_count}
 
 -- the open blocks, the outermost first, the steps so far of the innermost, and all that is kept so far
 pub record Draft : Type 0 where

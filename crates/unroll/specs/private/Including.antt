@@ -11,7 +11,7 @@ use Rattle.stim_parser.specs.Verdicts.{Instruction}
 use Rattle.stim_lexer.specs.Trees.{InstructionLine}
 use Rattle.unroll.specs.declared.inclusions.Note.{Note}
 use Rattle.unroll.specs.private.Detecting.{records_after, records_moved, records_onward}
-use Rattle.unroll.specs.TargetsMade.{records_named}
+use Rattle.circuit_walk.specs.TargetsMade.{records_named}
 use Rattle.flat_lists.specs.Turns.{later}
 use Rattle.unroll.specs.private.Gathered.{Gathering}
 use Rattle.unroll.specs.private.Observables.{instruction_adds}

@@ -16,8 +16,8 @@ use Rattle.stim_lexer.specs.Reached.{instructions_of}
 use Rattle.stim_parser.specs.Trees.{Tree}
 use Rattle.stim_parser.specs.Verdicts.{Instruction}
 use Rattle.stim_parser.specs.Limits.{products_of}
-use Rattle.unroll.specs.Targets.{term_at, term_of}
-use Rattle.unroll.specs.Totals.{first_argument}
+use Rattle.circuit_walk.specs.Targets.{term_at, term_of}
+use Rattle.circuit_walk.specs.Totals.{first_argument}
 
 -- an entry of a probability and letters
 abbrev pub entry_of : List Term → List ℕ → Kept

@@ -12,9 +12,9 @@ use Rattle.stim_parser.specs.declared.operation.Operation.{Operation}
 use Rattle.stim_parser.specs.declared.operation.Operation.TheVariants.{Applies, Measurement, QubitReset, MeasurementReset, ProductMeasurement, PauliError, CorrelatedError}
 use Rattle.stim_parser.specs.declared.target.Target.{Target}
 use Rattle.stim_parser.specs.declared.target.Target.TheVariants.{Back}
-use Rattle.unroll.specs.StepsMade.{fed_letter}
+use Rattle.circuit_walk.specs.StepsMade.{fed_letter}
 use Rattle.stim_parser.specs.Limits.{products_of, qubit_of}
-use Rattle.unroll.specs.Targets.{is_inverted, is_product_inverted}
+use Rattle.circuit_walk.specs.Targets.{is_inverted, is_product_inverted}
 
 -- ---- targets
 

@@ -7,7 +7,7 @@ use Rattle.stim_parser.specs.declared.operation.Operation.TheVariants.{Applies, 
 use Rattle.stim_parser.specs.declared.target.Target.{Target}
 use Rattle.stim_parser.specs.Trees.{Tree}
 use Rattle.stim_parser.specs.Verdicts.{Instruction}
-use Rattle.unroll.specs.Totals.{observables_to, qubits_to, target_count}
+use Rattle.circuit_walk.specs.Totals.{observables_to, qubits_to, target_count}
 use Rattle.stim_lexer.specs.Reached.{greatest_by, total}
 
 -- of this many targets, how many records, collapses and detectors an operation makes

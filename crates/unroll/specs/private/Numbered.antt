@@ -8,7 +8,7 @@ use Rattle.stim_parser.specs.declared.operation.Operation.TheVariants.{Measureme
 use Rattle.stim_parser.specs.Texts.{Item}
 use Rattle.stim_lexer.specs.Trees.{InstructionLine, BlockStart, BlockEnd}
 use Rattle.stim_parser.specs.Verdicts.{Instruction}
-use Rattle.unroll.specs.Totals.{first_argument}
+use Rattle.circuit_walk.specs.Totals.{first_argument}
 
 -- a probability with its bound
 abbrev pub chance_from : List ℕ → Chance

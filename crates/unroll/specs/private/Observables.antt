@@ -6,8 +6,8 @@ use Rattle.std.specs.List.{range_with_len}
 use Rattle.stim_parser.specs.Trees.{Tree}
 use Rattle.stim_parser.specs.Verdicts.{Instruction}
 use Rattle.stim_lexer.specs.Reached.{reached}
-use Rattle.unroll.specs.TargetsMade.{records_named}
-use Rattle.unroll.specs.Totals.{observable_total, observables_to}
+use Rattle.circuit_walk.specs.TargetsMade.{records_named}
+use Rattle.circuit_walk.specs.Totals.{observable_total, observables_to}
 use Rattle.unroll.specs.private.MadeTotals.{record_count}
 
 -- what an instruction adds to the observable k after this many records

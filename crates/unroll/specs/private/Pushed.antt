@@ -17,8 +17,8 @@ use Rattle.unroll.specs.private.Made.{measure_step, one_step, product_steps, rec
 use Rattle.unroll.specs.private.Named.{KeepsAs}
 use Rattle.stim_parser.specs.Limits.{products_of}
 use Rattle.stim_parser.specs.Numbers.{most_qubits}
-use Rattle.unroll.specs.Targets.{is_product_inverted}
-use Rattle.unroll.specs.Totals.{qubits_to}
+use Rattle.circuit_walk.specs.Targets.{is_product_inverted}
+use Rattle.circuit_walk.specs.Totals.{qubits_to}
 
 -- the innermost open block, or the circuit where none is open, has these steps more
 pub record Adds (steps : List TextStep) (old new : Building) : Type 0 where

@@ -9,7 +9,7 @@ use Rattle.stim_lexer.specs.Trees.{Nothing, Then, Block}
 use Rattle.stim_parser.specs.Verdicts.{Instruction}
 use Rattle.unroll.specs.private.Kept.{entries_of, products_in, kept_entries, kept_products}
 use Rattle.unroll.specs.private.Made.{operation_steps}
-use Rattle.unroll.specs.StepsMade.{flip_of}
+use Rattle.circuit_walk.specs.StepsMade.{flip_of}
 
 -- the steps of an instruction, where this many entries and products are kept before it
 abbrev pub instruction_steps : ℕ → ℕ → Instruction → List TextStep

@@ -8,9 +8,9 @@ use Rattle.stim_parser.specs.Trees.{Tree}
 use Rattle.stim_parser.specs.Verdicts.{Instruction}
 use Rattle.unroll.specs.declared.totals.Totals.{Totals}
 use Rattle.stim_lexer.specs.Passes.{Pass}
-use Rattle.unroll.specs.Refusals.{first_observable_beyond, most_observables, reaches_far}
+use Rattle.circuit_walk.specs.Refusals.{first_observable_beyond, most_observables, reaches_far}
 use Rattle.unroll.specs.private.Counted.{first_far_from}
-use Rattle.unroll.specs.Totals.{observable_total, observables_to, qubit_total, step_total}
+use Rattle.circuit_walk.specs.Totals.{observable_total, observables_to, qubit_total, step_total}
 use Rattle.unroll.specs.private.MadeTotals.{fault_count, fault_total, made_count, made_total, collapse_count, collapse_total, detector_count, detector_total, listed_count, listed_total, qubits_named, record_count, record_total, step_count}
 
 abbrev pub greatest : ℕ

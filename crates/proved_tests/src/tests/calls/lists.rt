@@ -1,6 +1,6 @@
 ghost use Rattle.std.specs.Prelude.{◌≡◌, length};
 
-use flat_lists::{FlatLists, ListRooms, NumberLists, Short, ShortList, ShortLists};
+use flat_lists::{FlatLists, ListRooms, NumberLists};
 use std::alloc::{AllocError, Global};
 use std::process::Abort;
 use std::test::Fail;
@@ -111,74 +111,5 @@ fn are_repeated(lists: &NumberLists<Global>) -> bool {
 fn lists_are_repeated(rt: HostRuntime) -> Result<(), Fail> {
     let lists = repeated(rt.alloc())?;
     assert!(rt; are_repeated(&lists));
-    Ok(())
-}
-
-/// Numbers, of which those less than 256 have a short form.
-const NUMBERS: [&[u32]; 5] = [
-    &[0, 255, 256, 1, 70_000],
-    &[],
-    &[3],
-    &[u32::MAX],
-    &[1, 2, 256],
-];
-
-/// A number in a byte.
-#[derive(Clone, Copy)]
-struct Byte(u8);
-
-impl Short<u32> for Byte {
-    ghost long = { λ byte. byte.0 };
-
-    fn shorten(item: u32) -> Option<Byte> {
-        if item < 256 {
-            Some(Byte(item as u8))
-        } else {
-            None
-        }
-    }
-
-    fn lengthen(self) -> u32 {
-        self.0 as u32
-    }
-}
-
-/// Whether a list has these items, in this order.
-fn is_list(list: ShortList<'_, u32, Byte>, wanted: &[u32]) -> bool {
-    let mut rest = list;
-    for item in wanted {
-        let Some((first, others)) = rest.split_first() else {
-            return false;
-        };
-        if first != *item {
-            return false;
-        }
-        rest = others;
-    }
-    rest.is_empty() & (list.len() == wanted.len()) & (list.is_empty() == wanted.is_empty())
-}
-
-fn push_numbers(lists: &mut ShortLists<u32, Byte, Global>) -> Result<(), AllocError> {
-    for list in NUMBERS {
-        lists.push(list)?;
-    }
-    Ok(())
-}
-
-fn are_numbers(lists: &ShortLists<u32, Byte, Global>) -> bool {
-    let mut all = lists.len() == NUMBERS.len();
-    for (index, list) in NUMBERS.iter().enumerate() {
-        if index < lists.len() {
-            all &= is_list(lists.get(index), *list);
-        }
-    }
-    all
-}
-
-#[test]
-fn numbers_in_bytes_come_back(rt: HostRuntime) -> Result<(), Fail> {
-    let mut lists = ShortLists::new(rt.alloc());
-    push_numbers(&mut lists)?;
-    assert!(rt; are_numbers(&lists));
     Ok(())
 }

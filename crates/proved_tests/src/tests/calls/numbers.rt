@@ -2,7 +2,7 @@
 use std::alloc::Global;
 use std::test::Fail;
 use step_model::ChanceText;
-use stim_parser::{Item, Numbered, Operation, ShortTarget, Target, parse};
+use stim_parser::{Item, Numbered, Operation, TargetWord, parse};
 
 /// A circuit with three texts of probabilities, of which the first comes again with blanks.
 const CIRCUIT: &[u8] = b"\
@@ -45,7 +45,7 @@ fn mark_is(item: Item<'_, '_>, number: Option<u32>) -> bool {
 }
 
 /// Whether the texts and the numbers are those of the circuit.
-fn are_told(read: &Numbered<'_, Operation, Target, ShortTarget, Global>) -> bool {
+fn are_told(read: &Numbered<'_, Operation, TargetWord, Global>) -> bool {
     if read.texts.len() != TEXTS.len() || read.items.len() != NUMBERS.len() {
         return false;
     }

@@ -5,7 +5,7 @@ use Rattle.std.proofs.lemmas.List.{nil_from_length}
 use Rattle.stim_parser.specs.Kept.{instruction_in}
 use Rattle.unroll.specs.private.Detecting.{detecting, records_moved}
 use Rattle.unroll.specs.private.Detectors.{detectors_of}
-use Rattle.unroll.specs.TargetsMade.{operation_detectors}
+use Rattle.circuit_walk.specs.TargetsMade.{operation_detectors}
 use Rattle.unroll.specs.private.MadeTotals.{record_count, records_made}
 use Rattle.unroll.proofs.CountLemmas.{HasPopped, counting-begins, counting-does, counting-does_few, counting-ends, counting-ends_few, counting-few, counting-first, counting-room, counting-same, counting-some, with_turns}
 use Rattle.unroll.proofs.DetectorLemmas.{IsWithin, detecting-counts, detecting-done, within-limit}

@@ -10,8 +10,8 @@ use Rattle.programs.specs.Kept.{Kept}
 use Rattle.unroll.specs.private.Kept.{error_entries}
 use Rattle.unroll.specs.private.Numbered.{IsOperationNumber}
 use Rattle.unroll.specs.private.Pushed.{AddsFaults}
-use Rattle.unroll.specs.Targets.{term_of}
-use Rattle.unroll.specs.Totals.{first_argument}
+use Rattle.circuit_walk.specs.Targets.{term_of}
+use Rattle.circuit_walk.specs.Totals.{first_argument}
 use Rattle.unroll.proofs.FaultLemmas.{faults-more, faults-none, numbered-entry}
 use Rattle.unroll.proofs.entries.push_errors.Goals as goal
 

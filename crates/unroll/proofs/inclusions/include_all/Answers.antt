@@ -4,7 +4,7 @@ use Rattle.std.specs.Prelude.{◌^◌, All}
 use Rattle.std.proofs.lemmas.List.{length-map, length-replicate}
 use Rattle.stim_parser.specs.Kept.{instruction_in}
 use Rattle.unroll.specs.declared.inclusions.Note.{Note}
-use Rattle.unroll.specs.Totals.{observable_total}
+use Rattle.circuit_walk.specs.Totals.{observable_total}
 use Rattle.unroll.specs.private.Including.{notes_of, with_included}
 use Rattle.unroll.specs.private.MadeTotals.{record_count, records_made}
 use Rattle.unroll.proofs.CountLemmas.{HasPopped}

@@ -1,4 +1,4 @@
-use Rattle.unroll.specs.Totals.{observable_total}
+use Rattle.circuit_walk.specs.Totals.{observable_total}
 use Rattle.unroll.proofs.IncludingLoops.{IsIncluding}
 use Rattle.unroll.proofs.inclusions.include_all.Given as goal
 

@@ -1,7 +1,6 @@
 use Rattle.std.proofs.Common.{◌∷◌, [], List, ℕ, sym, ap, ◌∙◌, arith, length}
-use Rattle.stim_parser.specs.Kept.{list_in}
 use Rattle.stim_parser.specs.declared.target.Target.{Target}
-use Rattle.unroll.specs.TargetsMade.{records_named}
+use Rattle.circuit_walk.specs.TargetsMade.{records_named}
 use Rattle.unroll.specs.private.Including.{with_more}
 use Rattle.unroll.proofs.IncludingLemmas.{more-length, more-more, more-none}
 use Rattle.unroll.proofs.inclusions.include_records.Goals as goal
@@ -10,7 +9,7 @@ pub loop-target-preserved : goal.loop-target-preserved
 loop-target-preserved g c =
     let k = c.args.observable in
     let l = c.loop-target in
-    let after = records_named c.args.records (list_in c.in-Some.after) in
+    let after = records_named c.args.records c.in-Some.after.now in
     record {
       lists =
           ap (with_more k after) c.in_ok-push.ensures.ok

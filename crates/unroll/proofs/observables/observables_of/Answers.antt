@@ -1,5 +1,5 @@
 use Rattle.std.proofs.Common.{◌≡◌, [], ℕ, length, replicate, ap, ◌∙◌, arith}
-use Rattle.unroll.specs.Totals.{observable_total}
+use Rattle.circuit_walk.specs.Totals.{observable_total}
 use Rattle.unroll.proofs.SizeLemmas.{observables-none, sizes-length}
 use Rattle.unroll.proofs.observables.observables_of.Goals as goal
 

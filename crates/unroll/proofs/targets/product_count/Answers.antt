@@ -1,5 +1,4 @@
 use Rattle.std.proofs.Common.{List, length, ap, ◌∙◌, arith}
-use Rattle.stim_parser.specs.Kept.{list_in}
 use Rattle.stim_parser.specs.declared.target.Target.{Target}
 use Rattle.stim_parser.specs.Limits.{products_of}
 use Rattle.unroll.proofs.ProductLemmas.{count-joined, count-ended}
@@ -11,7 +10,7 @@ loop-after-preserved-then-joined c =
     let e = c.end_of_factor-joined in
     let count =
     ap (λ (ts : List Target). length (products_of ts)) cut
-    ∙ count-joined _ _ (list_in e.result.1) e.result.0 e.ensures c.if-joined.true in
+    ∙ count-joined _ _ e.result.1.now e.result.0 e.ensures c.if-joined.true in
     record {
       value = omega (arith, count, c.loop-after.invariant.value);
       few = omega (arith, ap length cut, e.ensures.fewer, c.loop-after.invariant.few);
@@ -23,7 +22,7 @@ loop-after-preserved c =
     let e = c.end_of_factor-joined in
     let count =
     ap (λ (ts : List Target). length (products_of ts)) cut
-    ∙ count-ended _ _ (list_in e.result.1) e.result.0 e.ensures c.if-joined.false in
+    ∙ count-ended _ _ e.result.1.now e.result.0 e.ensures c.if-joined.false in
     record {
       value = omega (arith, count, c.loop-after.invariant.value);
       few = omega (arith, ap length cut, e.ensures.fewer, c.loop-after.invariant.few);

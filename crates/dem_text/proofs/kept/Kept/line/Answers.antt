@@ -26,6 +26,6 @@ returns g c i got =
     let same = handed-is items c.args.place i c.in-InstructionLine.instruction c.in-InstructionLine.ensures.item here in
     record {
       brief_is = kept-brief items c.self.inside.briefs.items c.self.inside.stated c.args.place i c.index.result.now c.index.result.now c.get-in-InstructionLine.result.now c.self.invariant here c.index.ensures c.get-in-InstructionLine.ensures.value;
-      targets_are = c.all_of.ensures ∙ ap (λ (j : Instruction). j.targets) same;
+      targets_are = ap (λ (j : Instruction). j.targets) same;
       arguments_are = ap (λ (j : Instruction). j.arguments) same;
     }

@@ -30,7 +30,7 @@ mark_is g c n is =
 pub returns-in-InstructionLine-clause-item : goal.returns-in-InstructionLine-clause-item
 returns-in-InstructionLine-clause-item g c =
     let here = c.in-InstructionLine in
-    ap (λ (targets : List g.row.T.Denot). Some (item_kept targets (node.InstructionLine here.operation here.mark here.line here.arguments))) c.get.ensures
+    ap (λ (targets : List g.row.T.Denot). Some (item_kept targets (node.InstructionLine here.operation here.mark here.line here.arguments))) c.get.ensures.value
     ∙ item_is g (goal.at.returns-in-InstructionLine-clause-item g c).After-index _ here.is
 
 pub returns-in-BlockStart-clause-item : goal.returns-in-BlockStart-clause-item

@@ -1,7 +1,7 @@
 use Rattle.std.proofs.Common.{◌≡◌, ◌∙◌}
 use Rattle.stim_parser.specs.Kept.{instruction_in}
 use Rattle.stim_parser.proofs.NumberArguments.{names_number}
-use Rattle.unroll.specs.Totals.{observables_to}
+use Rattle.circuit_walk.specs.Totals.{observables_to}
 use Rattle.unroll.proofs.FitLemmas.{qubits_within}
 use Rattle.unroll.proofs.ObservableLemmas.{one-to}
 use Rattle.unroll.proofs.totals.Totals.add.Goals as goal
