@@ -1,8 +1,14 @@
 pub mod Before
 pub mod FaultsMade
+pub mod Letters
+pub mod Made
 pub mod Meaning
+pub mod Programs
+pub mod Refusals
+pub mod Small
+pub mod Steps
 pub mod StepsMade
 pub mod Targets
 pub mod TargetsMade
 pub mod Totals
-pub mod Refusals
+pub mod private

@@ -1,2 +1,17 @@
 //! A circuit's steps, gone over in place: what each instruction makes, target by target, and a walk over all of them.
 #![tactic(auto)]
+
+mod choice;
+mod course;
+mod instruction_steps;
+mod letters;
+mod pairs;
+mod products;
+mod program;
+mod step;
+mod walk;
+
+pub use letters::Letters;
+pub use program::{Parts, Program, Totals};
+pub use step::{Counts, FaultName, Step};
+pub use walk::Walk;

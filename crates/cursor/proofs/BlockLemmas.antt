@@ -1,14 +1,13 @@
--- Counting through the items of a block, to its other end.
-use Rattle.std.proofs.Common.{◌≡◌, ◌<◌, ◌≤◌, ◌+◌, ◌-◌, inl, inr, ℕ, zero, suc, List, [], ◌∷◌, length, drop, refl, ap, sym, subst, ◌∙◌, arith, Some}
+-- Counting through the items of a block, from its end back to its start.
+use Rattle.std.proofs.Common.{◌≡◌, ◌<◌, ◌≤◌, ◌+◌, ◌-◌, inl, inr, ℕ, zero, suc, List, [], ◌∷◌, length, drop, refl, ap, subst, ◌∙◌, arith, Some}
 use Rattle.std.specs.Prelude.{slice_get}
 use Rattle.std.proofs.lemmas.Bool.{cases_lt}
 use Rattle.std.proofs.lemmas.List.{length-drop}
 use Rattle.stim_lexer.specs.Trees.{Item, InstructionLine, BlockStart, BlockEnd, Tree}
 use Rattle.stim_lexer.specs.Flat.{onto}
 use Rattle.cursor.specs.Places.{AreNested, trees_at}
-use Rattle.cursor.specs.private.Blocks.{Spans}
-use Rattle.cursor.proofs.Inside.{one_more, one_place}
-use Rattle.cursor.proofs.Passing.{at_item, at_end}
+use Rattle.cursor.proofs.Inside.{one_place}
+use Rattle.cursor.proofs.Passing.{at_item}
 
 -- from one index to another these trees stand deeper than at the end of the block, and so deep at `i`
 pub record IsWithin {I : Type 0} (items : List (Item I)) (from to i : ℕ) (behind : List (Tree I)) (depth : ℕ) : Type 0 where
@@ -102,65 +101,3 @@ module _ {I : Type 0} (items : List (Item I)) (to i : ℕ) (behind : List (Tree 
       let some : 0 < d - 1 = omega (arith, w.deep) in
       let e : suc (d - 1) ≡ d = omega (arith, w.deep) in
       back_step items to (i - 1) behind d (d - 1) some (at_start items (i - 1) (d - 1) line iterations item some ∙ ap (λ n. drop n (trees_at items (suc (i - 1)))) e) there
-
--- ---- on from the start
-
-pub begin_body : {I : Type 0} (items : List (Item I)) (i : ℕ) → 1 < length (trees_at items i) → IsWithin items i i i (drop 1 (trees_at items i)) 1
-begin_body items i more =
-    let some : 0 < length (drop 1 (trees_at items i)) = omega (arith, length-drop 1 (trees_at items i)) in
-    record {
-      order = omega arith;
-      some = some;
-      deep = omega arith;
-      trees_are = refl;
-      over = one_place items i (drop 1 (trees_at items i)) (deeper (trees_at items i) (drop 1 (trees_at items i)) 1 (omega arith) some refl);
-    }
-
-pub item_at : {I : Type 0} (items : List (Item I)) (from i : ℕ) (behind : List (Tree I)) (d : ℕ) → IsWithin items from i i behind d → i < length items
-item_at items from i behind d w =
-    elim (cases_lt i (length items)) [
-      | inl within ↦ within
-      | inr past ↦ absurd (omega (arith, w.over i w.order (omega arith), w.some, ap length (at_end items i past)))
-    ]
-
-on_step : {I : Type 0} (items : List (Item I)) (from i : ℕ) (behind : List (Tree I)) (d e : ℕ) → 0 < e → drop d (trees_at items i) ≡ drop e (trees_at items (suc i)) → IsWithin items from i i behind d → IsWithin items from (suc i) (suc i) behind e
-on_step items from i behind d e deep same w =
-    let t : drop e (trees_at items (suc i)) ≡ behind = sym same ∙ w.trees_are in
-    record {
-      order = omega (arith, w.order);
-      some = w.some;
-      deep = deep;
-      trees_are = t;
-      over = λ j low high.
-          elim (one_more j i high) [
-            | inl a ↦ w.over j low a
-            | inr b ↦ subst (λ n. length behind < length (trees_at items n)) (sym b) (deeper (trees_at items (suc i)) behind e deep w.some t)
-          ];
-    }
-
-module _ {I : Type 0} (items : List (Item I)) (from i : ℕ) (behind : List (Tree I)) (d : ℕ) (w : IsWithin items from i i behind d) where
-  next : (e : ℕ) → IsWithin items from (suc i) (suc i) behind e → IsWithin items from (i + 1) (i + 1) behind e
-  next e v = let n : suc i ≡ i + 1 = omega arith in subst (λ k. IsWithin items from k k behind e) n v
-
-  pub on_over_instruction : (x : I) → slice_get items i ≡ Some (InstructionLine x) → IsWithin items from (i + 1) (i + 1) behind d
-  on_over_instruction x item = next d (on_step items from i behind d d w.deep (at_instruction items i d x item w.deep) w)
-
-  pub on_over_start : (line iterations : ℕ) → slice_get items i ≡ Some (BlockStart line iterations) → IsWithin items from (i + 1) (i + 1) behind (d + 1)
-  on_over_start line iterations item =
-      let e : suc d ≡ d + 1 = omega arith in
-      next (d + 1) (on_step items from i behind d (d + 1) (omega arith) (at_start items i d line iterations item w.deep ∙ ap (λ n. drop n (trees_at items (suc i))) e) w)
-
-  pub on_over_end : slice_get items i ≡ Some BlockEnd → (d ≡ 1 → ⊥) → IsWithin items from (i + 1) (i + 1) behind (d - 1)
-  on_over_end item more =
-      let e : d ≡ suc (d - 1) = omega (arith, w.deep) in
-      next (d - 1) (on_step items from i behind d (d - 1) (omega (arith, w.deep)) (ap (λ n. drop n (trees_at items i)) e ∙ at_block_end items i (d - 1) item) w)
-
-pub spans_on : {I : Type 0} (items : List (Item I)) (body i d : ℕ) → slice_get items i ≡ Some BlockEnd → d ≡ 1 → IsWithin items body i i (drop 1 (trees_at items body)) d → Spans items body i
-spans_on {I} items body i d item one w =
-    let t : drop 1 (trees_at items body) ≡ trees_at items (suc i) = sym w.trees_are ∙ ap (λ n. drop n (trees_at items i)) one ∙ at_block_end items i 0 item in
-    record {
-      from = w.order;
-      end_is = item;
-      trees_are = t;
-      over = λ j low high. subst (λ (ts : List (Tree I)). length ts < length (trees_at items j)) t (w.over j low high);
-    }

@@ -1,9 +1,9 @@
-//! The other end of a block. It isn't kept, so the items between are counted through.
+//! Where a block starts, from its end. It isn't kept, so the items between are counted through.
 
-ghost use Rattle.std.specs.Prelude.{◌≡◌, ◌<◌, ◌^◌, Some, suc, length, slice_get};
+ghost use Rattle.std.specs.Prelude.{◌≡◌, ◌<◌, Some, length, slice_get};
 ghost use Rattle.stim_lexer.specs.Trees.{BlockEnd};
-ghost use Rattle.cursor.specs.Places.{AreNested, trees_at};
-ghost use Rattle.cursor.specs.private.Blocks.{Spans, IsStarted};
+ghost use Rattle.cursor.specs.Places.{AreNested, Spans};
+ghost use Rattle.cursor.specs.private.Blocks.{IsStarted};
 
 use crate::marks::{Mark, mark_at};
 use std::alloc::Allocator;
@@ -24,7 +24,7 @@ pub(crate) fn body_before<O: Copy, T: Copy, A: Allocator + Copy>(
     let mut depth: usize = 1;
     while body > 0 {
         match mark_at(items, body - 1) {
-            Mark::Instruction => {}
+            Mark::Does(_) => {}
             Mark::End => depth += 1,
             Mark::Start { .. } => {
                 if depth == 1 {
@@ -34,34 +34,6 @@ pub(crate) fn body_before<O: Copy, T: Copy, A: Allocator + Copy>(
             }
         }
         body -= 1;
-    }
-    unreachable!()
-}
-
-/// Where the body ends that starts here.
-pub(crate) fn end_behind<O: Copy, T: Copy, A: Allocator + Copy>(
-    items: &Items<'_, O, T, A>,
-    body: usize,
-) -> usize
-    requires nested { AreNested items.now.items }
-    requires inside { 1 < length (trees_at items.now.items body) }
-    ensures { Spans items.now.items body result }
-{
-    let count = items.len();
-    let mut end = body;
-    let mut depth: usize = 1;
-    while end < count {
-        match mark_at(items, end) {
-            Mark::Instruction => {}
-            Mark::Start { .. } => depth += 1,
-            Mark::End => {
-                if depth == 1 {
-                    return end;
-                }
-                depth -= 1;
-            }
-        }
-        end += 1;
     }
     unreachable!()
 }

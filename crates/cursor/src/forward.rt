@@ -1,12 +1,13 @@
-//! The way to the next instruction, over the starts and ends of blocks.
+//! The way to the next chosen instruction, over the starts and ends of blocks and the other
+//! instructions.
 
 ghost use Rattle.std.specs.Prelude.{◌≡◌, ◌<◌, ◌≤◌, ◌^◌, ℕ, Some, false, true, length, slice_get};
 ghost use Rattle.stim_lexer.specs.Trees.{BlockStart, BlockEnd};
 ghost use Rattle.cursor.specs.Places.{AreNested, IsPlace, levels_of};
-ghost use Rattle.cursor.specs.declared.marks.Mark.TheVariants.{Instruction};
 ghost use Rattle.cursor.specs.private.Forward.{IsPassing, Passes, GoesTo};
-ghost use Rattle.cursor.specs.private.Marks.{IsMark};
+ghost use Rattle.cursor.specs.private.Marks.{IsChosen};
 
+use crate::choice::Choice;
 use crate::cursor::{Cursor, Level};
 use crate::marks::{Mark, mark_at};
 use std::alloc::Allocator;
@@ -14,39 +15,46 @@ use stim_lexer::Items;
 
 impl Cursor {
     // Goes into the first iteration of the block that starts here.
-    fn enter<O: Copy, T: Copy, A: Allocator + Copy>(
+    fn enter<C: Choice<O>, O: Copy, T: Copy, A: Allocator + Copy>(
         &mut self,
         items: &Items<'_, O, T, A>,
         iterations: u64,
         fresh: usize,
     ) -> usize
         requires nested { AreNested items.now.items }
-        requires passing { IsPassing items.now.items self.old.index (levels_of self.old) fresh }
-        requires start { (line : ℕ) × (slice_get items.now.items self.old.index ≡ Some (BlockStart line iterations)) }
+        requires passing { IsPassing (λ i. C.chosen i.operation) items.now.items
+            self.old.index (levels_of self.old) fresh }
+        requires start { (line : ℕ) × (slice_get items.now.items self.old.index
+            ≡ Some (BlockStart line iterations)) }
         requires few { length items.now.items < 2 ^ 64 }
-        ensures { Passes items.now.items self.old fresh self.new result }
+        ensures { Passes (λ i. C.chosen i.operation) items.now.items
+            self.old fresh self.new result }
     {
         let body = self.index + 1;
         self.index = body;
+        // Where the body ends isn't known yet: `leave` keeps it, before an iteration needs it.
         self.open.push(Level {
             body,
+            end: body,
             left: iterations - 1,
         });
         fresh + 1
     }
 
-    // Goes over the end of an iteration: into the next one, or out of the block behind its last. Where no instruction of it
-    // was passed, none of its iterations reaches one.
-    fn leave<O: Copy, T: Copy, A: Allocator + Copy>(
+    // Goes over the end of an iteration: into the next one, or out of the block behind its last.
+    // Where no chosen instruction of it was passed, none of its iterations reaches one.
+    fn leave<C: Choice<O>, O: Copy, T: Copy, A: Allocator + Copy>(
         &mut self,
         items: &Items<'_, O, T, A>,
         fresh: usize,
     ) -> usize
         requires nested { AreNested items.now.items }
-        requires passing { IsPassing items.now.items self.old.index (levels_of self.old) fresh }
+        requires passing { IsPassing (λ i. C.chosen i.operation) items.now.items
+            self.old.index (levels_of self.old) fresh }
         requires end { slice_get items.now.items self.old.index ≡ Some BlockEnd }
         requires few { length items.now.items < 2 ^ 64 }
-        ensures { Passes items.now.items self.old fresh self.new result }
+        ensures { Passes (λ i. C.chosen i.operation) items.now.items
+            self.old fresh self.new result }
     {
         let level = self.open.pop().unwrap();
         if fresh > 0 {
@@ -57,34 +65,45 @@ impl Cursor {
             self.index += 1;
             return 0;
         }
+        let end = self.index;
         self.index = level.body;
         self.open.push(Level {
             body: level.body,
+            end,
             left: level.left - 1,
         });
         1
     }
 
-    /// Goes to the next instruction, or to the end. Answers whether an instruction is there.
-    pub(crate) fn go_to_instruction<O: Copy, T: Copy, A: Allocator + Copy>(
+    /// Goes to the next chosen instruction, or to the end. Answers whether one is there.
+    pub(crate) fn go_to_instruction<C: Choice<O>, O: Copy, T: Copy, A: Allocator + Copy>(
         &mut self,
         items: &Items<'_, O, T, A>,
     ) -> bool
         requires nested { AreNested items.now.items }
         requires place { IsPlace items.now.items self.old.index (levels_of self.old) }
-        ensures moved { GoesTo items.now.items self.old self.new }
-        ensures found { result ≡ true → IsMark (slice_get items.now.items self.new.index) Instruction }
+        ensures moved { GoesTo (λ i. C.chosen i.operation) items.now.items self.old self.new }
+        ensures found { result ≡ true →
+            IsChosen (λ i. C.chosen i.operation) (slice_get items.now.items self.new.index) }
         ensures few { result ≡ true → length items.now.items < 2 ^ 64 }
         ensures end { result ≡ false → length items.now.items ≤ self.new.index }
     {
         let count = items.len();
-        // How many of the innermost blocks were entered since, and none of their instructions was passed.
+        // How many of the innermost blocks were entered since, and none of their chosen instructions
+        // was passed.
         let mut fresh = 0;
         while self.index < count {
             match mark_at(items, self.index) {
-                Mark::Instruction => return true,
-                Mark::Start { iterations } => fresh = self.enter(items, iterations, fresh),
-                Mark::End => fresh = self.leave(items, fresh),
+                Mark::Does(operation) => {
+                    if C::is_chosen(operation) {
+                        return true;
+                    }
+                    self.index += 1;
+                }
+                Mark::Start { iterations } => {
+                    fresh = self.enter::<C, O, T, A>(items, iterations, fresh);
+                }
+                Mark::End => fresh = self.leave::<C, O, T, A>(items, fresh),
             }
         }
         false

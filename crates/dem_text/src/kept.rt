@@ -27,7 +27,7 @@ use crate::fold::Fold;
 use crate::operation::Operation;
 use crate::target::Target;
 use arrayvec::ArrayVec;
-use cursor::Cursor;
+use cursor::{AllInstructions, Cursor};
 use flat_lists::FlatLists;
 use std::alloc::{AllocError, Allocator};
 use std::marker::Model;
@@ -275,21 +275,21 @@ impl<'a, A: Allocator + Copy> Kept<'a, A> {
     /// A cursor before all lines.
     pub(crate) fn start(&self) -> Cursor
         requires { AreNested self.now }
-        ensures place { StandsIn self.now result }
-        ensures before { before_of self.now result ≡ [] }
-        ensures left { left_of self.now result ≡ reached (tree_of self.now) }
+        ensures place { StandsIn (λ i. true) self.now result }
+        ensures before { before_of (λ i. true) self.now result ≡ [] }
+        ensures left { left_of (λ i. true) self.now result ≡ reached (tree_of self.now) }
     {
-        Cursor::start(&self.items)
+        Cursor::start::<AllInstructions, _, _, _>(&self.items)
     }
 
     /// Goes over the next line, if one is left, and answers its place.
     #[inline(always)]
     pub(crate) fn next(&self, cursor: &mut Cursor) -> Option<usize>
-        requires { StandsIn self.now cursor.old }
-        ensures place { StandsIn self.now cursor.new }
-        ensures over { GoesOver self.now cursor.old cursor.new result }
+        requires { StandsIn (λ i. true) self.now cursor.old }
+        ensures place { StandsIn (λ i. true) self.now cursor.new }
+        ensures over { GoesOver (λ i. true) self.now cursor.old cursor.new result }
     {
-        cursor.next(&self.items)
+        cursor.next::<AllInstructions, _, _, _>(&self.items)
     }
 
     /// Takes a fold past the line at a place, where an instruction stands. Its targets are looked up only where they are turned.

@@ -6,8 +6,8 @@ use Rattle.cursor.proofs.cursor.Cursor.go_back_to_instruction.Given as goal
 abbrev pub invariant-loop-self : goal.invariant-loop-self
 invariant-loop-self g l =
     record {
-      returning : IsReturning l.items.items l.self.index (levels_of l.self) l.fresh;
-      same : left_of l.items.items l.self ≡ left_of l.items.items l.initial.self;
+      returning : IsReturning (λ i. g.C.Choice.chosen i.operation) l.items.items l.self.index (levels_of l.self) l.fresh;
+      same : left_of (λ i. g.C.Choice.chosen i.operation) l.items.items l.self ≡ left_of (λ i. g.C.Choice.chosen i.operation) l.items.items l.initial.self;
     }
 
 abbrev pub decreases-loop-self : goal.decreases-loop-self

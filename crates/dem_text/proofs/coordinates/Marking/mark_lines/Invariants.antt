@@ -1,4 +1,4 @@
-use Rattle.std.proofs.Common.{◌≡◌, None, length}
+use Rattle.std.proofs.Common.{◌≡◌, None, length, true}
 use Rattle.cursor.specs.Places.{left_of}
 use Rattle.stim_lexer.specs.Flat.{tree_of}
 use Rattle.dem_text.specs.Models.{first_beyond, placed_lines}
@@ -14,4 +14,4 @@ invariant-loop-place g l = record {
 }
 
 abbrev pub decreases-loop-place : goal.decreases-loop-place
-decreases-loop-place g l = length (left_of l.kept l.cursor)
+decreases-loop-place g l = length (left_of (λ i. true) l.kept l.cursor)

@@ -1,4 +1,4 @@
-use Rattle.std.proofs.Common.{◌≡◌, [], ◌∷◌, ◌++◌, length, ap, subst, sym, ◌∙◌, arith, length-append}
+use Rattle.std.proofs.Common.{◌≡◌, [], ◌∷◌, ◌++◌, length, ap, subst, sym, ◌∙◌, arith, length-append, true}
 use Rattle.cursor.specs.Places.{before_of}
 use Rattle.dem_text.specs.private.Folds.{Folded, Follows, fold_over}
 use Rattle.dem_text.proofs.FoldLemmas.{fold-both}
@@ -8,8 +8,8 @@ pub loop-place-preserved : goal.loop-place-preserved
 loop-place-preserved g c =
     let over = c.in-Some.ensures.over in
     let x = over.0 in
-    let before = before_of c.args.self.now c.loop-place.cursor in
-    let after : before_of c.args.self.now c.next.new.cursor ≡ before ++ x ∷ [] = over.2.before in
+    let before = before_of (λ i. true) c.args.self.now c.loop-place.cursor in
+    let after : before_of (λ i. true) c.args.self.now c.next.new.cursor ≡ before ++ x ∷ [] = over.3.before in
     record {
       place = c.in-Some.ensures.place;
       follows = λ named f h.

@@ -1,0 +1,138 @@
+-- By the operation: the step is that of the target, of the pair or of the product at the place.
+use Rattle.std.proofs.Common.{◌≡◌, ◌<◌, ◌+◌, ◌*◌, ◌==◌, Bool, true, false, if◌then◌else◌, List, [], length, get_or, map, None, Some, sym, ap, ◌∙◌, subst, arith}
+use Rattle.std.specs.Prelude.{slice_get}
+use Rattle.std.proofs.lemmas.Bool.{eq-eqb, ne_eqb}
+use Rattle.std.proofs.lemmas.Option.{slice_get-get_or}
+use Rattle.gate_table.specs.Images.{arity_of}
+use Rattle.pauli_word.specs.Words.{lone_letter}
+use Rattle.step_model.specs.Listing.{Collapse, Fault, One, Reset, Word, word_of_terms}
+use Rattle.stim_parser.specs.declared.target.Target.{Target}
+use Rattle.stim_parser.specs.Limits.{products_of, qubit_of}
+use Rattle.circuit_walk.specs.Refusals.{reaches_far}
+use Rattle.circuit_walk.specs.StepsMade.{pair_made, pairs_made}
+use Rattle.circuit_walk.specs.Targets.{is_inverted, is_product_inverted, term_of}
+use Rattle.circuit_walk.proofs.ProductPlaces.{place_within}
+use Rattle.circuit_walk.proofs.ProductWords.{words_number}
+use Rattle.circuit_walk.proofs.StandLemmas.{fit_own, own, products_of_form, second_there, two_of}
+use Rattle.circuit_walk.proofs.StepLemmas.{collapse_at, numbered_at, of_each, pair_at, there_is}
+use Rattle.circuit_walk.proofs.instruction_steps.InstructionSteps.step.Goals as goal
+
+pub single_step-requires-clause-small : goal.single_step-requires-clause-small
+single_step-requires-clause-small c = (fit_own c.requires.stands.0 c.args.self.now _ c.requires.stands.3.steps c.in-Applies.is).small
+
+pub pair_step-requires-clause-there : goal.pair_step-requires-clause-there
+pair_step-requires-clause-there c =
+    let st = c.requires.stands in
+    let o = own 0 st.0 st.1 c.args.self.now c.args.counts st.2 _ st.3 c.in-Applies.is in
+    let two : (arity_of c.in-Applies.gate == 1) ≡ false = ne_eqb (arity_of c.in-Applies.gate) 1 (λ e. c.if-arity-eq1.false (c.arity.ensures ∙ e)) in
+    second_there c.in-Applies.gate c.args.self.now.targets.now c.args.self.now.at st.2 two o.count o.place.0 (omega (arith, c.requires.there, o.end))
+
+pub pair_step-requires-clause-near : goal.pair_step-requires-clause-near
+pair_step-requires-clause-near c =
+    let st = c.requires.stands in
+    let o = own 0 st.0 st.1 c.args.self.now c.args.counts st.2 _ st.3 c.in-Applies.is in
+    let e : st.1.records ≡ c.args.counts.records = omega (arith, o.records) in
+    sym (ap (λ r. reaches_far r c.args.self.now.targets.now) e) ∙ o.near
+
+pub pair_step-requires-clause-small : goal.pair_step-requires-clause-small
+pair_step-requires-clause-small c = (fit_own c.requires.stands.0 c.args.self.now _ c.requires.stands.3.steps c.in-Applies.is).small
+
+pub measurement-requires-clause-small : goal.measurement-requires-clause-small
+measurement-requires-clause-small c = (fit_own c.requires.stands.0 c.args.self.now _ c.requires.stands.3.steps c.in-Measurement.is).small
+
+pub measurement-requires-in-MeasurementReset-clause-small : goal.measurement-requires-in-MeasurementReset-clause-small
+measurement-requires-in-MeasurementReset-clause-small c = (fit_own c.requires.stands.0 c.args.self.now _ c.requires.stands.3.steps c.in-MeasurementReset.is).small
+
+pub reset-requires-clause-small : goal.reset-requires-clause-small
+reset-requires-clause-small c = (fit_own c.requires.stands.0 c.args.self.now _ c.requires.stands.3.steps c.in-QubitReset.is).small
+
+pub product_step-requires-clause-products : goal.product_step-requires-clause-products
+product_step-requires-clause-products c =
+    products_of_form c.args.self.now.targets.now (fit_own c.requires.stands.0 c.args.self.now _ c.requires.stands.3.steps c.in-ProductMeasurement.is).form
+
+pub returns-then-arity-eq1 : goal.returns-then-arity-eq1
+returns-then-arity-eq1 c n k i b st =
+    let g = c.in-Applies.gate in
+    let ts = c.args.self.now.targets.now in
+    let o = own n i b c.args.self.now c.args.counts k _ st c.in-Applies.is in
+    let arity : arity_of g ≡ 1 = sym c.arity.ensures ∙ c.if-arity-eq1.true in
+    let one : (arity_of g == 1) ≡ true = eq-eqb (arity_of g) 1 arity in
+    let at_k : c.args.self.now.at ≡ k = omega (arith, o.place.0 ∙ ap (λ m. m * k) arity) in
+    let t = there_is ts c.args.self.now.at (omega (arith, c.requires.there, o.end)) in
+    let got : slice_get ts k ≡ Some t.0 = subst (λ j. slice_get ts j ≡ Some t.0) at_k t.1 in
+    ap (λ steps. slice_get steps k) o.made
+    ∙ ap (λ (single : Bool). slice_get (if single then map (λ target. One g (qubit_of target)) ts else pairs_made n b.records g ts) k) one
+    ∙ of_each (λ target. One g (qubit_of target)) ts k t.0 got
+    ∙ ap (λ step. Some step) (sym (c.single_step.ensures n t.0 t.1))
+
+pub returns-else-arity-eq1 : goal.returns-else-arity-eq1
+returns-else-arity-eq1 c n k i b st =
+    let g = c.in-Applies.gate in
+    let ts = c.args.self.now.targets.now in
+    let at = c.args.self.now.at in
+    let o = own n i b c.args.self.now c.args.counts k _ st c.in-Applies.is in
+    let two : (arity_of g == 1) ≡ false = ne_eqb (arity_of g) 1 (λ e. c.if-arity-eq1.false (c.arity.ensures ∙ e)) in
+    let at_k : at ≡ 2 * k = o.place.0 ∙ ap (λ m. m * k) (two_of g two) in
+    let there : at < length ts = omega (arith, c.requires.there, o.end) in
+    let first = there_is ts at there in
+    let second = there_is ts (at + 1) (second_there g ts at k two o.count o.place.0 there) in
+    let records : b.records ≡ c.args.counts.records = omega (arith, o.records) in
+    ap (λ steps. slice_get steps k) o.made
+    ∙ ap (λ (single : Bool). slice_get (if single then map (λ target. One g (qubit_of target)) ts else pairs_made n b.records g ts) k) two
+    ∙ pair_at n b.records g ts k first.0 second.0 (subst (λ j. slice_get ts j ≡ Some first.0) at_k first.1) (subst (λ j. slice_get ts (j + 1) ≡ Some second.0) at_k second.1)
+    ∙ ap (λ r. Some (pair_made n r g first.0 second.0)) records
+    ∙ ap (λ step. Some step) (sym (c.pair_step.ensures n first.0 second.0 first.1 second.1))
+
+pub returns-in-PauliError : goal.returns-in-PauliError
+returns-in-PauliError c n k i b st =
+    let ts = c.args.self.now.targets.now in
+    let o = own n i b c.args.self.now c.args.counts k _ st c.in-PauliError.is in
+    let t = there_is ts c.args.self.now.at (omega (arith, c.requires.there, o.end)) in
+    let got : slice_get ts k ≡ Some t.0 = subst (λ j. slice_get ts j ≡ Some t.0) o.place.0 t.1 in
+    let number : b.faults + k ≡ c.args.counts.faults = omega (arith, o.faults) in
+    ap (λ steps. slice_get steps k) o.made
+    ∙ numbered_at b.faults (λ f target. Fault f) ts k t.0 got
+    ∙ ap (λ f. Some (Fault f)) number
+    ∙ ap (λ step. Some step) (sym (c.letter_fault.ensures.step n))
+
+pub returns-in-Measurement : goal.returns-in-Measurement
+returns-in-Measurement c n k i b st =
+    let ts = c.args.self.now.targets.now in
+    let o = own n i b c.args.self.now c.args.counts k _ st c.in-Measurement.is in
+    let t = there_is ts c.args.self.now.at (omega (arith, c.requires.there, o.end)) in
+    let got : slice_get ts k ≡ Some t.0 = subst (λ j. slice_get ts j ≡ Some t.0) o.place.0 t.1 in
+    ap (λ steps. slice_get steps k) o.made
+    ∙ collapse_at b i.arguments (λ (target : Target). Word (lone_letter n (qubit_of target) c.in-Measurement.letter)) is_inverted ts k t.0 c.args.counts c.args.self.now.flips got o.flips o.records o.faults
+    ∙ ap (λ step. Some step) (sym (c.measurement.ensures n t.0 t.1))
+
+pub returns-in-MeasurementReset : goal.returns-in-MeasurementReset
+returns-in-MeasurementReset c n k i b st =
+    let ts = c.args.self.now.targets.now in
+    let o = own n i b c.args.self.now c.args.counts k _ st c.in-MeasurementReset.is in
+    let t = there_is ts c.args.self.now.at (omega (arith, c.requires.there, o.end)) in
+    let got : slice_get ts k ≡ Some t.0 = subst (λ j. slice_get ts j ≡ Some t.0) o.place.0 t.1 in
+    ap (λ steps. slice_get steps k) o.made
+    ∙ collapse_at b i.arguments (λ (target : Target). Reset c.in-MeasurementReset.letter (qubit_of target)) is_inverted ts k t.0 c.args.counts c.args.self.now.flips got o.flips o.records o.faults
+    ∙ ap (λ step. Some step) (sym (c.measurement-in-MeasurementReset.ensures n t.0 t.1))
+
+pub returns-in-QubitReset : goal.returns-in-QubitReset
+returns-in-QubitReset c n k i b st =
+    let ts = c.args.self.now.targets.now in
+    let l = c.in-QubitReset.letter in
+    let o = own n i b c.args.self.now c.args.counts k _ st c.in-QubitReset.is in
+    let t = there_is ts c.args.self.now.at (omega (arith, c.requires.there, o.end)) in
+    let got : slice_get ts k ≡ Some t.0 = subst (λ j. slice_get ts j ≡ Some t.0) o.place.0 t.1 in
+    ap (λ steps. slice_get steps k) o.made
+    ∙ of_each (λ (target : Target). Collapse (Reset l (qubit_of target)) None) ts k t.0 got
+    ∙ ap (λ step. Some step) (sym (c.reset.ensures n t.0 t.1))
+
+pub returns-in-ProductMeasurement : goal.returns-in-ProductMeasurement
+returns-in-ProductMeasurement c n k i b st =
+    let ts = c.args.self.now.targets.now in
+    let o = own n i b c.args.self.now c.args.counts k _ st c.in-ProductMeasurement.is in
+    let inside : k < length (products_of ts) =
+    omega (arith, words_number ts, place_within ts k (omega (arith, o.place.0, c.requires.there, o.end))) in
+    let product = get_or (products_of ts) k [] in
+    ap (λ steps. slice_get steps k) o.made
+    ∙ collapse_at b i.arguments (λ (p : List Target). Word (word_of_terms n (map term_of p))) is_product_inverted (products_of ts) k product c.args.counts c.args.self.now.flips (slice_get-get_or (products_of ts) k [] inside) o.flips o.records o.faults
+    ∙ ap (λ step. Some step) (sym (c.product_step.ensures n k o.place.0 inside))

@@ -1,0 +1,4 @@
+pub mod Courses
+pub mod Held
+pub mod InstructionSteps
+pub mod Walks

@@ -1,0 +1,93 @@
+//! Letters at qubits, lent from the targets of an instruction.
+
+ghost use Rattle.std.specs.Prelude.{◌≡◌, [], ◌∷◌, All, IfSome, MatchOption};
+ghost use Rattle.circuit_walk.specs.Letters.{AreSmall, behind_star, letters_in, named_letter};
+ghost use Rattle.circuit_walk.specs.Small.{HasSmallQubit};
+ghost use Rattle.circuit_walk.specs.Targets.{pauli_letter};
+ghost use Rattle.stim_parser.specs.Limits.{qubit_of};
+
+use pauli_word::Letter;
+use step_model::Term;
+use stim_parser::{Target, TargetWord};
+
+/// Letters at qubits: one letter at the qubit of each of the targets, or, where there is none, the factors of a product,
+/// between which stars may stand. Contracts see the list of them by `letters_in`.
+#[derive(Clone, Copy)]
+pub struct Letters<'c> {
+    pub(crate) letter: Option<Letter>,
+    pub(crate) targets: &'c [TargetWord],
+}
+
+/// The qubit that a target names.
+#[inline(always)]
+pub(crate) fn qubit_of(target: Target) -> u32
+    requires { HasSmallQubit target }
+    ensures { result ≡ qubit_of target }
+{
+    match target {
+        Target::Plain(q) | Target::Inverted(q) | Target::Pauli(_, _, q) => q as u32,
+        Target::Back(_) | Target::Star => 0,
+    }
+}
+
+/// The letter of a target.
+#[inline(always)]
+fn pauli_letter(target: Target) -> Letter
+    ensures { result ≡ pauli_letter target }
+{
+    match target {
+        Target::Pauli(_, letter, _) => letter,
+        _ => Letter::I,
+    }
+}
+
+/// The letter given, or else that of a target, at the target's qubit.
+#[inline(always)]
+fn named_letter(letter: Option<Letter>, target: Target) -> Term
+    requires { HasSmallQubit target }
+    ensures { result ≡ named_letter letter target }
+{
+    Term {
+        qubit: qubit_of(target),
+        letter: match letter {
+            Some(letter) => letter,
+            None => pauli_letter(target),
+        },
+    }
+}
+
+/// What follows a star that stands first, or else all.
+#[inline(always)]
+fn behind_star(targets: &[TargetWord]) -> &[TargetWord]
+    ensures { result.now ≡ behind_star targets.now }
+{
+    match targets {
+        [first, rest @ ..] => match first.get() {
+            Target::Star => rest,
+            _ => targets,
+        },
+        [] => targets,
+    }
+}
+
+impl<'c> Letters<'c> {
+    /// The first letter at its qubit, and those behind it.
+    #[inline(always)]
+    pub fn split_first(self) -> Option<(Term, Letters<'c>)>
+        requires { AreSmall self }
+        ensures letters { MatchOption result (letters_in self.entry ≡ [])
+            (λ parts. letters_in self.entry ≡ parts.0 ∷ letters_in parts.1) }
+        ensures small { IfSome result (λ parts. AreSmall parts.1) }
+    {
+        match self.targets {
+            [first, rest @ ..] => Some((
+                named_letter(self.letter, first.get()),
+                Letters {
+                    letter: self.letter,
+                    targets: behind_star(rest),
+                },
+            )),
+            [] => None,
+        }
+    }
+}

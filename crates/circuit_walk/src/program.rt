@@ -1,0 +1,173 @@
+//! Programs: circuits as their text writes them, and what they take as a whole.
+
+ghost use Rattle.std.specs.Prelude.{◌≡◌, ◌<◌, ◌^◌, length};
+ghost use Rattle.circuit_walk.specs.Made.{PartsFit, kept_program};
+ghost use Rattle.circuit_walk.specs.private.Held.{Holds};
+ghost use Rattle.step_model.specs.Chances.{chance_at};
+ghost use Rattle.step_model.specs.WellFormed.{IsWellFormed};
+
+use crate::step::Counts;
+use std::alloc::Allocator;
+use std::marker::Model;
+use step_model::ChanceText;
+use stim_lexer::Items;
+use stim_parser::{Numbered, Operation, TargetWord};
+
+/// What a circuit takes as a whole: how many qubits it has, how many records, collapses, faults and steps its instructions make
+/// as they are reached, and how many detectors and observables.
+#[derive(Clone, Copy)]
+pub struct Totals {
+    pub qubits: u32,
+    pub counts: Counts,
+    pub steps: u32,
+    pub detectors: u32,
+    pub observables: u32,
+}
+
+/// What is kept of a program: its circuit with the texts of its probabilities, and its totals.
+pub struct Parts<'a, A: Allocator + Copy> {
+    pub read: Numbered<'a, Operation, TargetWord, A>,
+    pub totals: Totals,
+}
+
+// Written out, so that it is a call in the proof of each function that owns one.
+impl<A: Allocator + Copy> Drop for Parts<'_, A> {
+    fn drop(self) {
+        let Parts { read, totals: _ } = self;
+        drop(read);
+    }
+}
+
+/// A circuit that isn't refused. Contracts see what it lists, and the texts of its probabilities.
+pub struct Program<'a, A: Allocator + Copy> {
+    parts: Parts<'a, A>,
+}
+
+impl<'a, A: Allocator + Copy> Model for Program<'a, A> {
+    ghost use Rattle.circuit_walk.specs.Programs.{KeptProgram};
+
+    ghost Value = { KeptProgram };
+
+    ghost use Rattle.circuit_walk.specs.Made.{PartsFit, kept_program};
+
+    ghost view = { λ p. kept_program p.parts };
+
+    ghost invariant = { λ p. PartsFit p.parts };
+}
+
+// Written out, so that it is a call in the proof of each function that owns one.
+impl<A: Allocator + Copy> Drop for Program<'_, A> {
+    fn drop(self) {
+        let Program { parts } = self;
+        drop(parts);
+    }
+}
+
+/// What a walk goes over: the items of a circuit, the texts of its probabilities, and its totals.
+#[derive(Clone, Copy, Drop)]
+pub(crate) struct Text<'a, 'p, A: Allocator + Copy> {
+    pub items: &'a Items<'p, Operation, TargetWord, A>,
+    pub chances: &'a [ChanceText<'p>],
+    pub totals: Totals,
+}
+
+impl<'a, 'p, A: Allocator + Copy> Text<'a, 'p, A> {
+    /// Does nothing: the number of steps fits 32 bits.
+    #[inline(always)]
+    pub(crate) fn fits(&self)
+        ensures { self.now.totals.steps < 2 ^ 32 }
+    {
+        // The proof takes the range from a read.
+        let _steps = self.totals.steps;
+    }
+}
+
+impl<'p, A: Allocator + Copy> Program<'p, A> {
+    /// The program that these parts make.
+    pub fn new(parts: Parts<'p, A>) -> Self
+        requires { PartsFit parts }
+        ensures { result ≡ kept_program parts.entry }
+    {
+        Program { parts }
+    }
+
+    /// What a walk goes over.
+    #[inline(always)]
+    pub(crate) fn text(&self) -> Text<'_, 'p, A>
+        ensures { Holds self.now result }
+    {
+        Text {
+            items: &self.parts.read.items,
+            chances: self.parts.read.texts.as_slice(),
+            totals: self.parts.totals,
+        }
+    }
+
+    /// Does nothing: every program is well formed.
+    pub fn well_formed(&self)
+        ensures { IsWellFormed self.now.listing }
+    {
+        // The proof looks inside.
+        let _parts = &self.parts;
+    }
+
+    pub fn qubits(&self) -> u32
+        ensures { result ≡ self.now.listing.qubits }
+    {
+        self.parts.totals.qubits
+    }
+
+    pub fn record_count(&self) -> u32
+        ensures { result ≡ self.now.listing.records }
+    {
+        self.parts.totals.counts.records
+    }
+
+    pub fn collapse_count(&self) -> u32
+        ensures { result ≡ self.now.listing.collapses }
+    {
+        self.parts.totals.counts.collapses
+    }
+
+    pub fn fault_count(&self) -> u32
+        ensures { result ≡ length self.now.listing.faults }
+    {
+        self.parts.totals.counts.faults
+    }
+
+    pub fn detector_count(&self) -> usize
+        ensures { result ≡ length self.now.listing.detectors }
+    {
+        self.parts.totals.detectors as usize
+    }
+
+    pub fn observable_count(&self) -> usize
+        ensures { result ≡ length self.now.listing.observables }
+    {
+        self.parts.totals.observables as usize
+    }
+
+    /// The text of the probability with this number, byte for byte as the circuit has it.
+    pub fn chance_text(&self, number: u32) -> &'p [u8]
+        requires { number < length self.now.chances }
+        ensures { result.now ≡ (chance_at self.now.chances number).text }
+    {
+        self.parts.read.texts[number as usize].text
+    }
+
+    /// The floor of that probability times 2^64.
+    pub fn chance_bound(&self, number: u32) -> u128
+        requires { number < length self.now.chances }
+        ensures { result ≡ (chance_at self.now.chances number).bound }
+    {
+        self.parts.read.texts[number as usize].bound
+    }
+
+    /// The texts of the probabilities and their bounds, by their numbers: a caller that keeps something for each
+    /// probability needs it once for each of these.
+    pub fn chances(&self) -> &[ChanceText<'p>]
+        ensures { result.now ≡ self.now.chances }
+    {
+        self.parts.read.texts.as_slice()
+    }
+}
