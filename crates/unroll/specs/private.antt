@@ -5,6 +5,7 @@ pub mod Detecting
 pub mod Detectors
 pub mod Drafts
 pub mod Gathered
+pub mod InPlace
 pub mod Including
 pub mod Items
 pub mod Kept

@@ -91,7 +91,9 @@ fn parts_of<'a, A: Allocator + Copy>(
 }
 
 /// The totals of a circuit, or why it has no program.
-fn accepted_totals<A: Allocator + Copy>(circuit: &Circuit<'_, A>) -> Result<Totals, Fault>
+pub(crate) fn accepted_totals<A: Allocator + Copy>(
+    circuit: &Circuit<'_, A>,
+) -> Result<Totals, Fault>
     ensures ok { IfOk result (IsAccepted circuit.now) }
     ensures err { IfErr result (λ fault. circuit_refusal circuit.now ≡ Some fault) }
 {

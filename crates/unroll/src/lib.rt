@@ -6,6 +6,7 @@ mod coordinates;
 mod counts;
 mod detectors;
 mod entries;
+mod in_place;
 mod inclusions;
 pub mod laws;
 mod marks;
@@ -22,5 +23,6 @@ mod totals;
 mod writing;
 
 pub use assembly::{Untargeted, unroll, unroll_untargeted};
+pub use in_place::{read_in_place, unroll_in_place};
 pub use programs::{Program, Walk};
 pub use reading::{read_program, read_untargeted};

@@ -17,4 +17,5 @@ mod tableaus;
 mod texts;
 mod turns;
 mod walks;
+mod walks_in_place;
 mod words;

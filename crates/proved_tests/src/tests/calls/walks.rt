@@ -15,7 +15,7 @@ use unroll::read_program;
 /// `X` and `C` are the gates X and CX, and `R` is a reset. `M`, `P` and `N` are measurements of Z, of a product and of one that
 /// is inverted, each with its record and, where it may be flipped, the fault and its entry. `F` is a fault with its entry, and
 /// `B` is feedback of a record. `-` stands for no step.
-const ROWS: &str = "\
+pub(super) const ROWS: &str = "\
 REPEAT 2 { | REPEAT 2 { | X 0 | M 0 | } | X 0 | } = 40 = X M0 X M1 X X M2 X M3 X
 REPEAT 1 { | M 0 | } = 10 = M0
 REPEAT 2 { | M 0 | } | REPEAT 3 { | X 0 | } = 20 = M0 M1 X X X
@@ -33,7 +33,7 @@ CX rec[-1] 0 | M 0 | } | } = 50 = M0 B0 M1 B1 M2 B2 M3 B3 M4
 MPP(0.25) X0*Z1 | X_ERROR(1) 0 | } = 24 = R C P000 F11 R C P120 F31
 ";
 
-fn digit(word: &[u8], at: usize) -> Option<u32> {
+pub(super) fn digit(word: &[u8], at: usize) -> Option<u32> {
     match word.get(at).copied() {
         Some(byte) if byte.is_ascii_digit() => Some(byte as u32 - 48),
         _ => None,
@@ -94,7 +94,7 @@ fn step_of(word: &[u8]) -> Option<Step> {
 }
 
 /// The steps that the words of a text name.
-fn steps_of(alloc: Global, words: &str) -> Result<Vec<Step>, AllocError> {
+pub(super) fn steps_of(alloc: Global, words: &str) -> Result<Vec<Step>, AllocError> {
     let mut steps = Vec::new(alloc);
     for word in words.split_whitespace() {
         if let Some(step) = step_of(word.as_bytes()) {
