@@ -55,9 +55,9 @@ fits_in_place t totals h parts items kept narrowed =
     let same : t ≡ tree_of parts.read.items.items = sym (ap tree_of items ∙ tree_of-items t) in
     record {
       written = record {
-          written = ap items_of (sym same) ∙ sym items;
-          fits = subst (IsBuilt Fits) same h.circuit;
-        };
+        written = ap items_of (sym same) ∙ sym items;
+        fits = subst (IsBuilt Fits) same h.circuit;
+      };
       kept = kept;
       accepted = subst (λ u. circuit_refusal u ≡ None) same h.accepted;
       totals = subst (λ u. made.AreTotals (listing_of u) parts.totals) same

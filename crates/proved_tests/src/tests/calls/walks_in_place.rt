@@ -37,12 +37,7 @@ fn is_collapse(step: Step<'_>, written: programs::Step) -> bool {
                 flip: f,
             },
         ) => {
-            letter == l
-                && qubit == q
-                && rec == r
-                && reset == s
-                && inverted == i
-                && is_flip(flip, f)
+            letter == l && qubit == q && rec == r && reset == s && inverted == i && is_flip(flip, f)
         }
         (
             Step::CollapseWord {
@@ -66,9 +61,14 @@ fn is_collapse(step: Step<'_>, written: programs::Step) -> bool {
 fn is_step(step: Step<'_>, written: programs::Step) -> bool {
     match (step, written) {
         (Step::One { gate, q }, programs::Step::One { gate: g, q: p }) => gate == g && q == p,
-        (Step::Two { gate, a, b }, programs::Step::Two { gate: g, a: p, b: q }) => {
-            gate == g && a == p && b == q
-        }
+        (
+            Step::Two { gate, a, b },
+            programs::Step::Two {
+                gate: g,
+                a: p,
+                b: q,
+            },
+        ) => { gate == g && a == p && b == q }
         (Step::Fault { name, .. }, programs::Step::Fault(n)) => name.number == n.number,
         (
             Step::Feedback { letter, q, rec },
