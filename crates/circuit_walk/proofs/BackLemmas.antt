@@ -13,7 +13,8 @@ use Rattle.circuit_walk.specs.Before.{Before}
 use Rattle.circuit_walk.specs.Meaning.{new_steps}
 use Rattle.circuit_walk.specs.Programs.{KeptProgram}
 use Rattle.circuit_walk.specs.private.Courses.{IsCourse}
-use Rattle.circuit_walk.specs.private.InstructionSteps.{AreCounts, AreStepsOf, IsAt, Stands, counts_behind, makes_faults, makes_records, one_if}
+use Rattle.circuit_walk.specs.private.InstructionSteps.{AreCounts, AreStepsOf, IsAt, Stands, counts_behind}
+use Rattle.circuit_walk.specs.Makes.{makes_faults, makes_records, one_if}
 use Rattle.circuit_walk.specs.private.Walks.{AreCountsAt, is_step_maker, state_at, steps_of}
 use Rattle.circuit_walk.proofs.CountLemmas.{MakesAs}
 use Rattle.circuit_walk.proofs.EndLemmas.{ends}

@@ -20,7 +20,8 @@ use Rattle.circuit_walk.specs.FaultsMade.{fault_with, faults_made, flips_made}
 use Rattle.circuit_walk.specs.Targets.{term_at}
 use Rattle.circuit_walk.specs.Meaning.{new_faults, new_records, new_steps}
 use Rattle.circuit_walk.specs.StepsMade.{collapses_made, flip_of, gate_made, numbered_from, operation_made, pair_made, pairs_made}
-use Rattle.circuit_walk.specs.private.InstructionSteps.{has_argument, makes_collapses, makes_faults, makes_records, one_if}
+use Rattle.circuit_walk.specs.private.InstructionSteps.{has_argument}
+use Rattle.circuit_walk.specs.Makes.{makes_collapses, makes_faults, makes_records, one_if}
 
 -- ---- one step
 

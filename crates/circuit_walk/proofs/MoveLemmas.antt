@@ -1,12 +1,16 @@
 -- A course from one instruction to the next, and to the one before.
 use Rattle.std.proofs.Common.{◌≡◌, ◌*◌, ℕ, Bool, true, false, List, [], ◌∷◌, ◌++◌, Option, None, Some, length, length-append, append-nil, refl, sym, ap, ◌∙◌, subst, arith}
+use Rattle.std.specs.Prelude.{slice_get, slice_index_or}
 use Rattle.cursor.specs.Moves.{GoesOver}
 use Rattle.cursor.specs.Places.{StandsIn, before_of, left_of}
 use Rattle.cursor.specs.declared.cursor.Cursor.{Cursor}
+use Rattle.step_model.specs.declared.chances.ChanceText.{ChanceText}
 use Rattle.stim_lexer.specs.Flat.{tree_of}
-use Rattle.stim_lexer.specs.Trees.{Item}
+use Rattle.stim_lexer.specs.Trees.{InstructionLine, Item}
+use Rattle.stim_parser.proofs.MarkLemmas.{marked_at}
 use Rattle.stim_parser.specs.Circuits.{Fits}
-use Rattle.stim_parser.specs.Verdicts.{Instruction}
+use Rattle.stim_parser.specs.Probabilities.{Marks, chance_taken}
+use Rattle.stim_parser.specs.Verdicts.{Instruction, circuit_table}
 use Rattle.circuit_walk.specs.declared.course.Course.{Course}
 use Rattle.circuit_walk.specs.declared.instruction_steps.InstructionSteps.{InstructionSteps}
 use Rattle.circuit_walk.specs.declared.program.Text.{Text}
@@ -18,7 +22,8 @@ use Rattle.circuit_walk.specs.Refusals.{reaches_far}
 use Rattle.circuit_walk.specs.Totals.{qubit_total}
 use Rattle.circuit_walk.specs.private.Courses.{IsCourse}
 use Rattle.circuit_walk.specs.private.Held.{Holds}
-use Rattle.circuit_walk.specs.private.InstructionSteps.{AreStepsOf, IsAt, makes_faults, makes_records, one_if}
+use Rattle.circuit_walk.specs.private.InstructionSteps.{AreStepsOf, IsAt}
+use Rattle.circuit_walk.specs.Makes.{makes_faults, makes_records, one_if}
 use Rattle.circuit_walk.specs.private.Walks.{AreCountsAt, IsBetween, IsInside, is_step_maker, state_after, state_at, steps_of}
 use Rattle.circuit_walk.proofs.CountLemmas.{new_faults-counted, new_records-counted}
 use Rattle.circuit_walk.proofs.CourseLemmas.{AllOf, all_steps, makers_fit, makers_of, near_one, one_fits, steps_behind}
@@ -36,8 +41,8 @@ of_between n items cursor s c place h = record { records = h.records; faults = h
 
 -- ---- inside an instruction, before its first step and behind its last
 
-pub before_first : (n : ℕ) (items : List (Item Instruction)) (cursor : Cursor) (s : InstructionSteps) (c : Counts) (place : ℕ) → IsInside n items cursor s c place → s.at ≡ 0 → IsReady n (before_of is_step_maker items cursor) c place
-before_first n items cursor s c place h at =
+pub before_first : (n : ℕ) (chances : List ChanceText) (items : List (Item Instruction)) (cursor : Cursor) (s : InstructionSteps) (c : Counts) (place : ℕ) → IsInside n chances items cursor s c place → s.at ≡ 0 → IsReady n (before_of is_step_maker items cursor) c place
+before_first n chances items cursor s c place h at =
     let i = h.instruction in
     let none : h.k ≡ 0 = (ends n (state_at n items cursor) i h.stands.steps.fits).first s.at h.k h.stands.place at in
     record {
@@ -46,8 +51,8 @@ before_first n items cursor s c place h at =
       place_is = omega (arith, h.place_is, none);
     }
 
-pub behind_last : (n : ℕ) (items : List (Item Instruction)) (cursor : Cursor) (s : InstructionSteps) (c : Counts) (place : ℕ) → (h : IsInside n items cursor s c place) → s.at ≡ s.end → IsReady n (before_of is_step_maker items cursor ++ h.instruction ∷ []) c place
-behind_last n items cursor s c place h at =
+pub behind_last : (n : ℕ) (chances : List ChanceText) (items : List (Item Instruction)) (cursor : Cursor) (s : InstructionSteps) (c : Counts) (place : ℕ) → (h : IsInside n chances items cursor s c place) → s.at ≡ s.end → IsReady n (before_of is_step_maker items cursor ++ h.instruction ∷ []) c place
+behind_last n chances items cursor s c place h at =
     let i = h.instruction in
     let b = state_at n items cursor in
     let before = before_of is_step_maker items cursor in
@@ -78,8 +83,8 @@ behind_last n items cursor s c place h at =
 
 -- ---- into an instruction
 
-pub into_first : (n : ℕ) (items : List (Item Instruction)) (cursor : Cursor) (s : InstructionSteps) (c : Counts) (place : ℕ) (i : Instruction) (rest : List Instruction) → left_of is_step_maker items cursor ≡ i ∷ rest → IsReady n (before_of is_step_maker items cursor) c place → AreStepsOf i s → s.at ≡ 0 → reaches_far (state_at n items cursor).records i.targets ≡ false → IsInside n items cursor s c place
-into_first n items cursor s c place i rest left ready steps at near =
+pub into_first : (n : ℕ) (chances : List ChanceText) (items : List (Item Instruction)) (cursor : Cursor) (s : InstructionSteps) (c : Counts) (place : ℕ) (i : Instruction) (rest : List Instruction) → left_of is_step_maker items cursor ≡ i ∷ rest → IsReady n (before_of is_step_maker items cursor) c place → AreStepsOf i s → s.at ≡ 0 → reaches_far (state_at n items cursor).records i.targets ≡ false → Marks chances (chance_taken circuit_table i.operation i.arguments) s.chance → IsInside n chances items cursor s c place
+into_first n chances items cursor s c place i rest left ready steps at near marked =
     record {
       instruction = i;
       rest = rest;
@@ -91,11 +96,12 @@ into_first n items cursor s c place i rest left ready steps at near =
         counts = record { records = omega (arith, ready.records); faults = omega (arith, ready.faults) };
         near = near;
       };
+      marked = marked;
       place_is = omega (arith, ready.place_is);
     }
 
-pub into_last : (n : ℕ) (items : List (Item Instruction)) (cursor : Cursor) (s : InstructionSteps) (c : Counts) (place : ℕ) (i : Instruction) (rest : List Instruction) → left_of is_step_maker items cursor ≡ i ∷ rest → IsReady n (before_of is_step_maker items cursor ++ i ∷ []) c place → AreStepsOf i s → s.at ≡ s.end → reaches_far (state_at n items cursor).records i.targets ≡ false → IsInside n items cursor s c place
-into_last n items cursor s c place i rest left ready steps at near =
+pub into_last : (n : ℕ) (chances : List ChanceText) (items : List (Item Instruction)) (cursor : Cursor) (s : InstructionSteps) (c : Counts) (place : ℕ) (i : Instruction) (rest : List Instruction) → left_of is_step_maker items cursor ≡ i ∷ rest → IsReady n (before_of is_step_maker items cursor ++ i ∷ []) c place → AreStepsOf i s → s.at ≡ s.end → reaches_far (state_at n items cursor).records i.targets ≡ false → Marks chances (chance_taken circuit_table i.operation i.arguments) s.chance → IsInside n chances items cursor s c place
+into_last n chances items cursor s c place i rest left ready steps at near marked =
     let b = state_at n items cursor in
     let before = before_of is_step_maker items cursor in
     let count = length (new_steps n b i) in
@@ -114,6 +120,7 @@ into_last n items cursor s c place i rest left ready steps at near =
         };
         near = near;
       };
+      marked = marked;
       place_is =
           omega (arith, ready.place_is, ap (λ steps. length steps) (steps_behind n before i), length-append (steps_of n before) (new_steps n b i));
     }
@@ -136,6 +143,15 @@ sound_next program text cursor i rest held stands left =
       fits = one_fits before i rest (subst AllOf (sym whole) (makers_fit tree held.written.fits.fit));
       near = subst (λ n. reaches_far (state_after n at_start before).records i.targets ≡ false) qubits (near_one tree before i rest held.accepted whole);
     }
+
+-- the mark of an item is the number of its probability
+pub mark_of : {A : Type 0} (program : KeptProgram) (text : Text A) (k : ℕ) (i : Instruction) (mark : ℕ) → Holds program text → slice_get text.items.now.items k ≡ Some (InstructionLine i) → mark ≡ slice_index_or text.items.now.marks k 0 → Marks program.chances (chance_taken circuit_table i.operation i.arguments) mark
+mark_of program text k i mark held got is =
+    let read = text.items.now in
+    let chance = chance_taken circuit_table i.operation i.arguments in
+    subst (λ (m : ℕ). Marks program.chances chance m) (sym is)
+    (subst (λ (texts : List ChanceText). Marks texts chance (slice_index_or read.marks k 0)) (sym held.chances_are)
+    (marked_at circuit_table text.chances.now read.items read.marks k (InstructionLine i) held.kept.marked (sym got)))
 
 -- behind all instructions all steps are
 pub all_behind : {A : Type 0} (program : KeptProgram) (text : Text A) (cursor : Cursor) (counts : Counts) (place : ℕ) → Holds program text → StandsIn is_step_maker text.items.now.items cursor → left_of is_step_maker text.items.now.items cursor ≡ [] → IsReady program.listing.qubits (before_of is_step_maker text.items.now.items cursor) counts place → place ≡ length program.listing.steps
@@ -175,7 +191,7 @@ pub ready_before : {A : Type 0} (program : KeptProgram) (c : Course A) → IsCou
 ready_before program c h at = by_side c.inside refl
   where
     by_side : (side : Bool) → c.inside ≡ side → IsReady program.listing.qubits (before_of is_step_maker c.text.items.now.items c.cursor) c.counts c.steps
-    by_side true e = before_first _ _ _ _ _ _ (h.inside e) at
+    by_side true e = before_first _ _ _ _ _ _ _ (h.inside e) at
     by_side false e = ready_between program c h e
 
 -- a course between instructions, at another cursor
@@ -193,7 +209,7 @@ goes_between program old new h text counts steps outside at end stands ready =
     both e = cc
 
 -- a course inside an instruction
-pub goes_inside : {A : Type 0} (program : KeptProgram) (old new : Course A) → IsCourse program old → new.text ≡ old.text → new.counts ≡ old.counts → new.steps ≡ old.steps → new.inside ≡ true → StandsIn is_step_maker new.text.items.now.items new.cursor → IsInside program.listing.qubits new.text.items.now.items new.cursor new.here new.counts new.steps → IsCourse program new
+pub goes_inside : {A : Type 0} (program : KeptProgram) (old new : Course A) → IsCourse program old → new.text ≡ old.text → new.counts ≡ old.counts → new.steps ≡ old.steps → new.inside ≡ true → StandsIn is_step_maker new.text.items.now.items new.cursor → IsInside program.listing.qubits program.chances new.text.items.now.items new.cursor new.here new.counts new.steps → IsCourse program new
 goes_inside program old new h text counts steps inside stands within =
     record {
       held = subst (λ t. Holds program t) (sym text) h.held;

@@ -21,7 +21,8 @@ use Rattle.circuit_walk.specs.Meaning.{new_steps}
 use Rattle.circuit_walk.specs.Refusals.{reaches_far}
 use Rattle.circuit_walk.specs.Small.{HasSmallQubit}
 use Rattle.circuit_walk.specs.StepsMade.{operation_made}
-use Rattle.circuit_walk.specs.private.InstructionSteps.{AreStepsOf, IsAt, Stands, end_of, has_argument, makes_faults, makes_records, one_if}
+use Rattle.circuit_walk.specs.private.InstructionSteps.{AreStepsOf, IsAt, Stands, end_of, has_argument}
+use Rattle.circuit_walk.specs.Makes.{makes_faults, makes_records, one_if}
 use Rattle.circuit_walk.proofs.TargetLemmas.{small_targets}
 
 -- the targets of steps fit their operation

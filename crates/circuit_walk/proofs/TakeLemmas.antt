@@ -19,7 +19,8 @@ use Rattle.circuit_walk.specs.Steps.{listed}
 use Rattle.circuit_walk.specs.declared.step.Step.{Step}
 use Rattle.circuit_walk.specs.private.Courses.{IsCourse}
 use Rattle.circuit_walk.specs.private.Held.{Holds}
-use Rattle.circuit_walk.specs.private.InstructionSteps.{AreCounts, AreStepsOf, Stands, counts_behind, has_argument, makes_faults, makes_records, one_if}
+use Rattle.circuit_walk.specs.private.InstructionSteps.{AreCounts, AreStepsOf, Stands, counts_behind, has_argument}
+use Rattle.circuit_walk.specs.Makes.{makes_faults, makes_records, one_if}
 use Rattle.circuit_walk.specs.private.Walks.{AreCountsAt, IsInside, is_step_maker, state_at, steps_of}
 use Rattle.circuit_walk.proofs.CountLemmas.{MakesAs, each_at, each_new}
 use Rattle.circuit_walk.proofs.CourseLemmas.{all_steps, makers_of, step_inside}
@@ -29,7 +30,7 @@ use Rattle.circuit_walk.proofs.EndLemmas.{ends}
 
 -- the instruction that a course is inside, in its words
 abbrev pub InsideOf : {A : Type 0} → KeptProgram → Course A → Type 0
-InsideOf program c = IsInside program.listing.qubits c.text.items.now.items c.cursor c.here c.counts c.steps
+InsideOf program c = IsInside program.listing.qubits program.chances c.text.items.now.items c.cursor c.here c.counts c.steps
 
 -- where the place isn't the end, or isn't the start, the course is inside an instruction
 pub is_inside_before : {A : Type 0} (program : KeptProgram) (c : Course A) → IsCourse program c → c.here.at ≢ c.here.end → c.inside ≡ true

@@ -1,8 +1,11 @@
 pub mod Before
 pub mod FaultsMade
+pub mod Found
 pub mod Letters
 pub mod Made
+pub mod Makes
 pub mod Meaning
+pub mod Named
 pub mod Programs
 pub mod Refusals
 pub mod Small
@@ -11,4 +14,5 @@ pub mod StepsMade
 pub mod Targets
 pub mod TargetsMade
 pub mod Totals
+pub mod Walks
 pub mod private

@@ -1,4 +1,5 @@
 pub mod Courses
 pub mod Held
 pub mod InstructionSteps
+pub mod Names
 pub mod Walks

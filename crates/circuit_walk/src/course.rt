@@ -1,6 +1,7 @@
 //! The course of a walk: over the instructions that make steps, and over the steps of each.
 
-ghost use Rattle.std.specs.Prelude.{◌≡◌, ◌≢◌, ◌+◌, ◌-◌, ◌<◌, ◌≤◌, ◌==◌, ℕ, None, Some, false, true, if◌then◌else◌, length, nat_lt, option_map, slice_get};
+ghost use Rattle.std.specs.Prelude.{◌≡◌, ◌≢◌, ◌+◌, ◌-◌, ◌<◌, ◌≤◌, ◌==◌, ℕ, None, Some, false, true, if◌then◌else◌, length, nat_lt, option_map, slice_get, slice_index_or, IfSome};
+ghost use Rattle.circuit_walk.specs.Named.{IsStepOf};
 ghost use Rattle.circuit_walk.specs.Programs.{KeptProgram};
 ghost use Rattle.circuit_walk.specs.Steps.{listed};
 ghost use Rattle.circuit_walk.specs.private.Courses.{IsCourse, moves_ahead, moves_behind};
@@ -90,6 +91,7 @@ impl<'a, 'p, A: Allocator + Copy> Course<'a, 'p, A> {
         ensures steps { (x : Instruction) → slice_get self.now.text.items.now.items i ≡ Some (InstructionLine x)
             → AreStepsOf x result }
         ensures at { result.at ≡ 0 }
+        ensures chance { result.chance ≡ slice_index_or self.now.text.items.now.marks i 0 }
     {
         match self.text.items.get(i) {
             Item::InstructionLine(instruction) => InstructionSteps::new(instruction),
@@ -169,7 +171,7 @@ impl<'a, 'p, A: Allocator + Copy> Course<'a, 'p, A> {
     /// Goes over instructions without further steps. Answers whether a step is left, which is then one of the instruction that
     /// the place is inside.
     #[inline(always)]
-    fn face_step(&mut self) -> bool
+    pub(crate) fn face_step(&mut self) -> bool
         requires course { (program : KeptProgram) × IsCourse program self.old }
         ensures course { (program : KeptProgram) → IsCourse program self.old → IsCourse program self.new }
         ensures place { self.new.steps ≡ self.old.steps }
@@ -188,7 +190,7 @@ impl<'a, 'p, A: Allocator + Copy> Course<'a, 'p, A> {
     /// Goes back over instructions without earlier steps. Answers whether a step is before the place, which is then one of the
     /// instruction that the place is inside.
     #[inline(always)]
-    fn face_step_before(&mut self) -> bool
+    pub(crate) fn face_step_before(&mut self) -> bool
         requires course { (program : KeptProgram) × IsCourse program self.old }
         ensures course { (program : KeptProgram) → IsCourse program self.old → IsCourse program self.new }
         ensures place { self.new.steps ≡ self.old.steps }
@@ -211,6 +213,7 @@ impl<'a, 'p, A: Allocator + Copy> Course<'a, 'p, A> {
         ensures course { (program : KeptProgram) → IsCourse program self.old → IsCourse program self.new }
         ensures step { (program : KeptProgram) → IsCourse program self.old
             → slice_get program.listing.steps self.old.steps ≡ Some (listed program.listing.qubits result) }
+        ensures named { (program : KeptProgram) → IsCourse program self.old → IsStepOf program result }
         ensures place { self.new.steps ≡ self.old.steps + 1 }
     {
         self.text.fits();
@@ -224,12 +227,13 @@ impl<'a, 'p, A: Allocator + Copy> Course<'a, 'p, A> {
 
     /// Answers the step that stands right before the place, and goes back over it.
     #[inline(always)]
-    fn take_back(&mut self) -> Step<'a>
+    pub(crate) fn take_back(&mut self) -> Step<'a>
         requires course { (program : KeptProgram) × IsCourse program self.old }
         requires facing { 0 < self.old.here.at }
         ensures course { (program : KeptProgram) → IsCourse program self.old → IsCourse program self.new }
         ensures step { (program : KeptProgram) → IsCourse program self.old
             → slice_get program.listing.steps self.new.steps ≡ Some (listed program.listing.qubits result) }
+        ensures named { (program : KeptProgram) → IsCourse program self.old → IsStepOf program result }
         ensures place { self.old.steps ≡ self.new.steps + 1 }
     {
         let at = self.here.place_before();
@@ -246,6 +250,7 @@ impl<'a, 'p, A: Allocator + Copy> Course<'a, 'p, A> {
         ensures course { (program : KeptProgram) → IsCourse program self.old → IsCourse program self.new }
         ensures step { (program : KeptProgram) → IsCourse program self.old
             → option_map (listed program.listing.qubits) result ≡ slice_get program.listing.steps self.old.steps }
+        ensures named { (program : KeptProgram) → IsCourse program self.old → IfSome result (IsStepOf program) }
         ensures place { (program : KeptProgram) → IsCourse program self.old → self.new.steps
             ≡ (if nat_lt self.old.steps (length program.listing.steps) then self.old.steps + 1 else self.old.steps) }
     {
@@ -264,6 +269,7 @@ impl<'a, 'p, A: Allocator + Copy> Course<'a, 'p, A> {
         ensures step { (program : KeptProgram) → IsCourse program self.old
             → option_map (listed program.listing.qubits) result
             ≡ (if self.old.steps == 0 then None else slice_get program.listing.steps (self.old.steps - 1)) }
+        ensures named { (program : KeptProgram) → IsCourse program self.old → IfSome result (IsStepOf program) }
         ensures place { self.new.steps ≡ self.old.steps - 1 }
     {
         if self.face_step_before() {

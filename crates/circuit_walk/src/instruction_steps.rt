@@ -1,6 +1,6 @@
 //! The steps that one instruction makes, one after another: of each target, of each pair, of each product, or one of all.
 
-ghost use Rattle.std.specs.Prelude.{◌≡◌, ◌+◌, ◌<◌, ◌≤◌, ◌^◌, ℕ, All, [], false, true, Some, if◌then◌else◌, None, length, option_map, slice_get, slice_index_or, take};
+ghost use Rattle.std.specs.Prelude.{◌≡◌, ◌+◌, ◌<◌, ◌≤◌, ◌^◌, ℕ, All, IfSome, [], false, true, Some, if◌then◌else◌, None, length, option_map, slice_get, slice_index_or, take};
 ghost use Rattle.circuit_walk.specs.Before.{Before};
 ghost use Rattle.circuit_walk.specs.Meaning.{new_steps};
 ghost use Rattle.circuit_walk.specs.Refusals.{reaches_far};
@@ -8,12 +8,15 @@ ghost use Rattle.circuit_walk.specs.Small.{HasSmallQubit};
 ghost use Rattle.circuit_walk.specs.Steps.{listed, measured, number_of};
 ghost use Rattle.circuit_walk.specs.StepsMade.{pair_made};
 ghost use Rattle.circuit_walk.specs.Targets.{is_inverted};
-ghost use Rattle.circuit_walk.specs.private.InstructionSteps.{IsAt, AreStepsOf, Stands, counts_behind, end_of, has_argument, made_by, makes_collapses, makes_faults, makes_records, product_made, product_words, recorded_at, words_length};
+ghost use Rattle.circuit_walk.specs.private.InstructionSteps.{IsAt, AreStepsOf, Stands, counts_behind, end_of, has_argument, made_by, product_made, product_words, recorded_at, words_length};
+ghost use Rattle.circuit_walk.specs.Makes.{makes_collapses, makes_faults, makes_records};
+ghost use Rattle.circuit_walk.specs.private.Names.{IsNext, IsOf, Lends, NamesNext};
 ghost use Rattle.step_model.specs.Listing.{Collapse, Fault, One, Reset};
 ghost use Rattle.stim_parser.specs.Limits.{are_products, products_of, qubit_of};
 ghost use Rattle.stim_parser.specs.Circuits.{Fits};
 ghost use Rattle.stim_parser.specs.Kept.{instruction_in};
 ghost use Rattle.stim_parser.specs.Verdicts.{Instruction};
+ghost use Rattle.stim_parser.specs.declared.operation.Operation.TheVariants.{CorrelatedError, PauliError, ProductMeasurement};
 
 use crate::letters::{Letters, qubit_of};
 use crate::pairs::pair_step;
@@ -134,8 +137,9 @@ impl<'c> InstructionSteps<'c> {
     /// The fault that flips the next record, where one does.
     #[inline(always)]
     fn flip(&self, counts: Counts) -> Option<FaultName>
-        ensures { option_map number_of result
+        ensures number { option_map number_of result
             ≡ (if self.now.flips then Some counts.faults else None) }
+        ensures next { IfSome result (IsNext self.now counts) }
     {
         if self.flips {
             Some(self.fault_name(counts))
@@ -158,9 +162,11 @@ impl<'c> InstructionSteps<'c> {
     fn measurement(&self, letter: Letter, reset: bool, counts: Counts) -> Step<'c>
         requires there { self.now.at < length self.now.targets.now }
         requires small { All HasSmallQubit self.now.targets.now }
-        ensures { (n : ℕ) (t : Target) → slice_get self.now.targets.now self.now.at ≡ Some t
+        ensures step { (n : ℕ) (t : Target) → slice_get self.now.targets.now self.now.at ≡ Some t
             → listed n result ≡ Collapse (measured n reset letter (qubit_of t))
             (recorded_at counts self.now.flips (is_inverted t)) }
+        ensures names { NamesNext self.now counts result }
+        ensures letters { (n k : ℕ) (i : Instruction) (b : Before) → Lends n b i k result }
     {
         let target = self.target(self.at);
         Step::Collapse {
@@ -178,8 +184,10 @@ impl<'c> InstructionSteps<'c> {
     fn reset(&self, letter: Letter) -> Step<'c>
         requires there { self.now.at < length self.now.targets.now }
         requires small { All HasSmallQubit self.now.targets.now }
-        ensures { (n : ℕ) (t : Target) → slice_get self.now.targets.now self.now.at ≡ Some t
+        ensures step { (n : ℕ) (t : Target) → slice_get self.now.targets.now self.now.at ≡ Some t
             → listed n result ≡ Collapse (Reset letter (qubit_of t)) None }
+        ensures names { (c : Counts) → NamesNext self.now c result }
+        ensures letters { (n k : ℕ) (i : Instruction) (b : Before) → Lends n b i k result }
     {
         Step::Collapse {
             letter,
@@ -196,8 +204,10 @@ impl<'c> InstructionSteps<'c> {
     fn single_step(&self, gate: Gate) -> Step<'c>
         requires there { self.now.at < length self.now.targets.now }
         requires small { All HasSmallQubit self.now.targets.now }
-        ensures { (n : ℕ) (t : Target) → slice_get self.now.targets.now self.now.at ≡ Some t
+        ensures step { (n : ℕ) (t : Target) → slice_get self.now.targets.now self.now.at ≡ Some t
             → listed n result ≡ One gate (qubit_of t) }
+        ensures names { (c : Counts) → NamesNext self.now c result }
+        ensures letters { (n k : ℕ) (i : Instruction) (b : Before) → Lends n b i k result }
     {
         Step::One {
             gate,
@@ -211,9 +221,11 @@ impl<'c> InstructionSteps<'c> {
         requires there { self.now.at + 1 < length self.now.targets.now }
         requires small { All HasSmallQubit self.now.targets.now }
         requires near { reaches_far counts.records self.now.targets.now ≡ false }
-        ensures { (n : ℕ) (first second : Target) → slice_get self.now.targets.now self.now.at ≡ Some first
+        ensures step { (n : ℕ) (first second : Target) → slice_get self.now.targets.now self.now.at ≡ Some first
             → slice_get self.now.targets.now (self.now.at + 1) ≡ Some second
             → listed n result ≡ pair_made n counts.records gate first second }
+        ensures names { (c : Counts) → NamesNext self.now c result }
+        ensures letters { (n k : ℕ) (i : Instruction) (b : Before) → Lends n b i k result }
     {
         let first = self.target(self.at);
         let second = self.target(self.at + 1);
@@ -224,9 +236,13 @@ impl<'c> InstructionSteps<'c> {
     fn product_step(&self, counts: Counts) -> Step<'c>
         requires products { are_products self.now.targets.now ≡ true }
         requires there { self.now.at < length self.now.targets.now }
-        ensures { (n k : ℕ) → self.now.at ≡ words_length (take k (product_words self.now.targets.now))
+        ensures step { (n k : ℕ) → self.now.at ≡ words_length (take k (product_words self.now.targets.now))
             → k < length (products_of self.now.targets.now)
             → listed n result ≡ product_made n (slice_index_or (products_of self.now.targets.now) k []) counts self.now.flips }
+        ensures names { NamesNext self.now counts result }
+        ensures letters { (n k : ℕ) (i : Instruction) (b : Before) → IsOf i ProductMeasurement self.now.targets.now
+            → self.now.at ≡ words_length (take k (product_words self.now.targets.now))
+            → k < length (products_of self.now.targets.now) → Lends n b i k result }
     {
         let product = &self.targets[self.at..product_behind(self.targets, self.at)];
         Step::CollapseWord {
@@ -245,6 +261,9 @@ impl<'c> InstructionSteps<'c> {
     fn letter_fault(&self, letter: Letter, counts: Counts) -> Step<'c>
         requires { self.now.at < length self.now.targets.now }
         ensures step { (n : ℕ) → listed n result ≡ Fault counts.faults }
+        ensures names { NamesNext self.now counts result }
+        ensures letters { (n : ℕ) (i : Instruction) (b : Before) → IsOf i (PauliError letter) self.now.targets.now
+            → Lends n b i self.now.at result }
     {
         Step::Fault {
             name: self.fault_name(counts),
@@ -259,6 +278,9 @@ impl<'c> InstructionSteps<'c> {
     #[inline(always)]
     fn product_fault(&self, counts: Counts) -> Step<'c>
         ensures step { (n : ℕ) → listed n result ≡ Fault counts.faults }
+        ensures names { NamesNext self.now counts result }
+        ensures letters { (n : ℕ) (i : Instruction) (b : Before) → IsOf i CorrelatedError self.now.targets.now
+            → Lends n b i 0 result }
     {
         Step::Fault {
             name: self.fault_name(counts),
@@ -274,8 +296,11 @@ impl<'c> InstructionSteps<'c> {
     pub(crate) fn step(&self, counts: Counts) -> Step<'c>
         requires stands { (i : Instruction) × (b : Before) × (k : ℕ) × Stands i b self.now counts k }
         requires there { self.now.at < self.now.end }
-        ensures { (n k : ℕ) (i : Instruction) (b : Before) → Stands i b self.now counts k
+        ensures step { (n k : ℕ) (i : Instruction) (b : Before) → Stands i b self.now counts k
             → slice_get (new_steps n b i) k ≡ Some (listed n result) }
+        ensures names { NamesNext self.now counts result }
+        ensures letters { (n k : ℕ) (i : Instruction) (b : Before) → Stands i b self.now counts k
+            → Lends n b i k result }
     {
         match self.operation {
             Operation::Applies(gate) => {

@@ -3,6 +3,8 @@
 
 mod choice;
 mod course;
+mod fault_course;
+mod fault_walk;
 mod instruction_steps;
 mod letters;
 mod pairs;
@@ -11,6 +13,7 @@ mod program;
 mod step;
 mod walk;
 
+pub use fault_walk::{FoundFault, next_fault};
 pub use letters::Letters;
 pub use program::{Parts, Program, Totals};
 pub use step::{Counts, FaultName, Step};

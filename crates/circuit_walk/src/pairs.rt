@@ -4,6 +4,11 @@ ghost use Rattle.std.specs.Prelude.{◌≡◌, ◌≤◌, ◌<◌, ◌^◌, ℕ}
 ghost use Rattle.circuit_walk.specs.Small.{HasSmallQubit, back_of};
 ghost use Rattle.circuit_walk.specs.Steps.{listed};
 ghost use Rattle.circuit_walk.specs.StepsMade.{fed_letter, pair_made};
+ghost use Rattle.circuit_walk.specs.Before.{Before};
+ghost use Rattle.circuit_walk.specs.declared.instruction_steps.InstructionSteps.{InstructionSteps};
+ghost use Rattle.circuit_walk.specs.declared.step.Counts.{Counts};
+ghost use Rattle.circuit_walk.specs.private.Names.{Lends, NamesNext};
+ghost use Rattle.stim_parser.specs.Verdicts.{Instruction};
 
 use crate::letters::qubit_of;
 use crate::step::Step;
@@ -30,7 +35,9 @@ pub(crate) fn pair_step<'c>(gate: Gate, first: Target, second: Target, records: 
     requires second { HasSmallQubit second }
     requires near_first { back_of first ≤ records }
     requires near_second { back_of second ≤ records }
-    ensures { (n : ℕ) → listed n result ≡ pair_made n records gate first second }
+    ensures step { (n : ℕ) → listed n result ≡ pair_made n records gate first second }
+    ensures names { (s : InstructionSteps) (c : Counts) → NamesNext s c result }
+    ensures letters { (n k : ℕ) (i : Instruction) (b : Before) → Lends n b i k result }
 {
     match (first, second) {
         (Target::Back(back), _) => Step::Feedback {

@@ -1,12 +1,17 @@
 //! A walk over the steps of a program, forward and back. It takes no memory.
 
-ghost use Rattle.std.specs.Prelude.{◌≡◌, ◌+◌, ◌-◌, ◌==◌, if◌then◌else◌, None, length, nat_lt, option_map, slice_get, take};
+ghost use Rattle.std.specs.Prelude.{◌≡◌, ◌+◌, ◌-◌, ◌<◌, ◌≤◌, ◌==◌, ℕ, Some, false, true, if◌then◌else◌, IfSome, None, length, nat_lt, option_map, slice_get, take};
+ghost use Rattle.circuit_walk.specs.Named.{IsStepOf};
 ghost use Rattle.circuit_walk.specs.Steps.{listed};
+ghost use Rattle.circuit_walk.specs.Walks.{PassesBack, PassesOver, is_fault};
+ghost use Rattle.circuit_walk.specs.declared.step.Step.TheVariants as step;
+ghost use Rattle.step_model.specs.Listing.{Fault};
 ghost use Rattle.step_model.specs.WellFormed.{collapse_count, faults_named, records_made};
 
 use crate::course::Course;
+use crate::letters::Letters;
 use crate::program::Program;
-use crate::step::Step;
+use crate::step::{FaultName, Step};
 use std::alloc::Allocator;
 use std::marker::Model;
 
@@ -98,6 +103,7 @@ impl<'a, 'p, A: Allocator + Copy> Walk<'a, 'p, A> {
     pub fn next_step(&mut self) -> Option<Step<'a>>
         ensures step { option_map (listed self.old.program.listing.qubits) result
             ≡ slice_get self.old.program.listing.steps self.old.place }
+        ensures named { IfSome result (IsStepOf self.old.program) }
         ensures program { self.new.program ≡ self.old.program }
         ensures place { self.new.place
             ≡ (if nat_lt self.old.place (length self.old.program.listing.steps) then self.old.place
@@ -112,9 +118,78 @@ impl<'a, 'p, A: Allocator + Copy> Walk<'a, 'p, A> {
         ensures step { option_map (listed self.old.program.listing.qubits) result
             ≡ (if self.old.place == 0 then None else slice_get self.old.program.listing.steps
             (self.old.place - 1)) }
+        ensures named { IfSome result (IsStepOf self.old.program) }
         ensures program { self.new.program ≡ self.old.program }
         ensures place { self.new.place ≡ self.old.place - 1 }
     {
         self.course.previous()
+    }
+
+    /// Whether a fault stands right after the place. At the end of an instruction's faults it may be missed.
+    #[inline(always)]
+    pub fn is_before_fault(&self) -> bool
+        ensures { result ≡ true
+            → is_fault (slice_get self.now.program.listing.steps self.now.place) ≡ true }
+    {
+        self.course.is_before_fault()
+    }
+
+    /// Goes forward over the faults of one instruction that stand right after the place, over `most` at most, and answers how
+    /// many these are.
+    #[inline(always)]
+    pub fn pass_faults(&mut self, most: usize) -> usize
+        ensures program { self.new.program ≡ self.old.program }
+        ensures place { self.new.place ≡ self.old.place + result }
+        ensures passed { PassesOver self.old.program.listing.steps self.old.place most result }
+    {
+        self.course.pass_faults(most)
+    }
+
+    /// Answers the fault before the place with the letters that it applies, and goes back over it. None where the step before
+    /// is no fault, or at the start: then no step is gone back over.
+    #[inline(always)]
+    pub fn previous_fault(&mut self) -> Option<(FaultName, Letters<'a>)>
+        ensures fault { IfSome result (λ fault. slice_get self.old.program.listing.steps
+            (self.old.place - 1)
+            ≡ Some (Fault fault.0.number)) }
+        ensures named { IfSome result
+            (λ fault. IsStepOf self.old.program (step.Fault fault.0 fault.1)) }
+        ensures none { result ≡ None
+            → 0 < self.old.place
+            → is_fault (slice_get self.old.program.listing.steps (self.old.place - 1)) ≡ false }
+        ensures program { self.new.program ≡ self.old.program }
+        ensures back { IfSome result (λ fault. self.new.place + 1 ≡ self.old.place) }
+        ensures stays { result ≡ None → self.new.place ≡ self.old.place }
+    {
+        self.course.previous_fault()
+    }
+
+    /// Goes back over the faults that stand right before the place, to `from` at most.
+    pub fn pass_faults_back(&mut self, from: usize)
+        requires { from ≤ self.old.place }
+        ensures program { self.new.program ≡ self.old.program }
+        ensures passed { PassesBack
+            (λ k. is_fault (slice_get self.old.program.listing.steps k))
+            from self.old.place self.new.place }
+    {
+        while from < self.place() && self.pass_run(from) {}
+    }
+
+    /// Goes back over those of one instruction, and answers whether there are any.
+    fn pass_run(&mut self, from: usize) -> bool
+        requires { from < self.old.place }
+        ensures program { self.new.program ≡ self.old.program }
+        ensures above { from ≤ self.new.place }
+        ensures below { self.new.place ≤ self.old.place }
+        ensures each { (k : ℕ)
+            → self.new.place ≤ k
+            → k < self.old.place
+            → is_fault (slice_get self.old.program.listing.steps k) ≡ true }
+        ensures some { result ≡ true → self.new.place < self.old.place }
+        ensures none { result ≡ false
+            → is_fault (slice_get self.old.program.listing.steps (self.new.place - 1)) ≡ false }
+    {
+        let most = self.course.steps - from;
+        0 < self.course.pass_faults_back(most)
     }
 }

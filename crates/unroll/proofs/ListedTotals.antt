@@ -22,7 +22,7 @@ use Rattle.circuit_walk.specs.Meaning.{after, at_start, listing_of, made_in, mad
 use Rattle.circuit_walk.specs.StepsMade.{gate_made, operation_made, pairs_made}
 use Rattle.circuit_walk.specs.TargetsMade.{operation_detectors}
 use Rattle.circuit_walk.specs.Totals.{observable_total, qubit_total, target_count}
-use Rattle.circuit_walk.specs.private.InstructionSteps.{makes_collapses, makes_faults, makes_records, one_if}
+use Rattle.circuit_walk.specs.Makes.{makes_collapses, makes_faults, makes_records, one_if}
 use Rattle.circuit_walk.proofs.CountLemmas.{Each, Makes, MakesAs, each_new, length-numbered, new_faults-counted, new_records-counted}
 use Rattle.unroll.specs.private.MadeTotals.{collapse_count, collapse_total, collapses_made, detector_count, detector_total, detectors_made, fault_count, fault_total, faults_counted, has_argument, made_count, made_total, record_count, record_total, records_made, steps_made}
 use Rattle.unroll.proofs.ReachedCounts.{sum-reached}

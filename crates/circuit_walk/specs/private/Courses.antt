@@ -11,7 +11,7 @@ use Rattle.circuit_walk.specs.private.Walks.{AreCountsAt, IsInside, IsBetween, i
 pub record IsCourse {A : Type 0} (program : KeptProgram) (c : Course A) : Type 0 where
   pub held : Holds program c.text
   pub stands : StandsIn is_step_maker c.text.items.now.items c.cursor
-  pub inside : c.inside ≡ true → IsInside program.listing.qubits c.text.items.now.items c.cursor c.here c.counts c.steps
+  pub inside : c.inside ≡ true → IsInside program.listing.qubits program.chances c.text.items.now.items c.cursor c.here c.counts c.steps
   pub between : c.inside ≡ false → IsBetween program.listing.qubits c.text.items.now.items c.cursor c.here c.counts c.steps
   pub counted : AreCountsAt program.listing.steps c.steps c.counts
 

@@ -1,6 +1,6 @@
 -- The steps of one instruction, one after another: where each stands among the targets, and what came before it.
 -- (Stim's gate reference, github.com/quantumlib/Stim, doc/gates.md; how they are gone through is this project's own.)
-use Rattle.std.specs.Prelude.{◌≡◌, ◌≤◌, ◌+◌, ◌*◌, ℕ, Bool, true, false, if◌then◌else◌, is_some, List, [], ◌∷◌, length, map, take, Option, None, Some, slice_get}
+use Rattle.std.specs.Prelude.{◌≡◌, ◌≤◌, ◌+◌, ◌*◌, ℕ, Bool, false, if◌then◌else◌, is_some, List, [], ◌∷◌, length, map, take, Option, None, Some, slice_get}
 use Rattle.gate_table.specs.Images.{arity_of}
 use Rattle.stim_parser.specs.declared.operation.Operation.{Operation}
 use Rattle.stim_parser.specs.declared.operation.Operation.TheVariants.{Applies, Measurement, QubitReset, MeasurementReset, ProductMeasurement, PauliError, CorrelatedError}
@@ -9,6 +9,7 @@ use Rattle.stim_parser.specs.declared.target.Target.TheVariants.{Star}
 use Rattle.stim_parser.specs.Circuits.{Fits}
 use Rattle.stim_parser.specs.Verdicts.{Instruction}
 use Rattle.step_model.specs.Listing.{ListedStep, Collapse, Recorded, Word, word_of_terms}
+use Rattle.circuit_walk.specs.Makes.{makes_collapses, makes_faults, makes_records, one_if}
 use Rattle.circuit_walk.specs.Targets.{is_product_inverted, term_of}
 use Rattle.circuit_walk.specs.declared.instruction_steps.InstructionSteps.{InstructionSteps}
 use Rattle.circuit_walk.specs.declared.step.Counts.{Counts}
@@ -52,25 +53,6 @@ IsAt ProductMeasurement targets at k =
 IsAt operation targets at k = (at ≡ k) × (k ≤ end_of operation targets)
 
 -- ---- what came before a step
-
--- whether an operation's steps make records, collapses, faults each
-abbrev pub makes_records : Operation → Bool
-makes_records (Measurement l) = true
-makes_records (MeasurementReset l) = true
-makes_records ProductMeasurement = true
-makes_records operation = false
-
-abbrev pub makes_collapses : Operation → Bool
-makes_collapses (QubitReset l) = true
-makes_collapses operation = makes_records operation
-
-abbrev pub makes_faults : Operation → Bool → Bool
-makes_faults (PauliError l) flips = true
-makes_faults CorrelatedError flips = true
-makes_faults operation flips = if flips then makes_records operation else false
-
-abbrev pub one_if : Bool → ℕ
-one_if b = if b then 1 else 0
 
 -- what one step of an operation makes
 abbrev pub made_by : Operation → Bool → Counts

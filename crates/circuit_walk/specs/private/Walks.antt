@@ -3,12 +3,14 @@
 use Rattle.std.specs.Prelude.{◌≡◌, ◌+◌, ℕ, Bool, true, false, List, [], ◌∷◌, length, take}
 use Rattle.cursor.specs.declared.cursor.Cursor.{Cursor}
 use Rattle.cursor.specs.Places.{before_of, left_of}
+use Rattle.step_model.specs.declared.chances.ChanceText.{ChanceText}
 use Rattle.step_model.specs.Listing.{ListedStep}
 use Rattle.step_model.specs.WellFormed.{collapse_count, faults_named, records_made}
 use Rattle.stim_lexer.specs.Trees.{Item}
 use Rattle.stim_parser.specs.declared.operation.Operation.{Operation}
 use Rattle.stim_parser.specs.declared.operation.Operation.TheVariants.{Applies, Measurement, QubitReset, MeasurementReset, ProductMeasurement, PauliError, CorrelatedError}
-use Rattle.stim_parser.specs.Verdicts.{Instruction}
+use Rattle.stim_parser.specs.Probabilities.{Marks, chance_taken}
+use Rattle.stim_parser.specs.Verdicts.{Instruction, circuit_table}
 use Rattle.circuit_walk.specs.declared.instruction_steps.InstructionSteps.{InstructionSteps}
 use Rattle.circuit_walk.specs.declared.step.Counts.{Counts}
 use Rattle.circuit_walk.specs.Before.{Before}
@@ -48,13 +50,15 @@ pub record AreCountsAt (steps : List ListedStep) (place : ℕ) (c : Counts) : Ty
 abbrev pub state_at : ℕ → List (Item Instruction) → Cursor → Before
 state_at n items cursor = state_after n at_start (before_of is_step_maker items cursor)
 
--- a place inside the instruction that a cursor is before: behind the first k of its steps
-pub record IsInside (n : ℕ) (items : List (Item Instruction)) (cursor : Cursor) (s : InstructionSteps) (c : Counts) (place : ℕ) : Type 0 where
+-- a place inside the instruction that a cursor is before: behind the first k of its steps, with the number of its probability
+-- among these texts
+pub record IsInside (n : ℕ) (chances : List ChanceText) (items : List (Item Instruction)) (cursor : Cursor) (s : InstructionSteps) (c : Counts) (place : ℕ) : Type 0 where
   pub instruction : Instruction
   pub rest : List Instruction
   pub k : ℕ
   pub left : left_of is_step_maker items cursor ≡ instruction ∷ rest
   pub stands : Stands instruction (state_at n items cursor) s c k
+  pub marked : Marks chances (chance_taken circuit_table instruction.operation instruction.arguments) s.chance
   pub place_is : place ≡ length (steps_of n (before_of is_step_maker items cursor)) + k
 
 -- a place between instructions, at a cursor

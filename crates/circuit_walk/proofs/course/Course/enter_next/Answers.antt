@@ -1,6 +1,6 @@
 -- The next instruction is entered before its first step.
 use Rattle.std.proofs.Common.{refl, sym, ◌∙◌, subst}
-use Rattle.circuit_walk.proofs.MoveLemmas.{IsReady, all_behind, goes_inside, into_first, ready_between, sound_next}
+use Rattle.circuit_walk.proofs.MoveLemmas.{IsReady, all_behind, goes_inside, into_first, mark_of, ready_between, sound_next}
 use Rattle.circuit_walk.proofs.course.Course.enter_next.Goals as goal
 
 pub steps_at-self-requires : goal.steps_at-self-requires
@@ -19,7 +19,7 @@ returns-in-Some-clause-course g c program before =
     let sound = sound_next program left.text c.face.new.self next.0 next.1 h.held c.in-Some.ensures.place next.4 in
     let ready = subst (λ is. IsReady n is left.counts left.steps) (sym c.in-Some.ensures.same.before) (ready_between program left h c.leave.ensures.outside) in
     goes_inside program left _ h refl refl refl refl c.in-Some.ensures.place
-    (into_first n left.text.items.now.items c.face.new.self c.steps_at-self.result left.counts left.steps next.0 next.1 next.4 ready (c.steps_at-self.ensures.steps next.0 next.2) c.steps_at-self.ensures.at sound.near)
+    (into_first n program.chances left.text.items.now.items c.face.new.self c.steps_at-self.result left.counts left.steps next.0 next.1 next.4 ready (c.steps_at-self.ensures.steps next.0 next.2) c.steps_at-self.ensures.at sound.near (mark_of program left.text _ next.0 c.steps_at-self.result.chance h.held next.2 c.steps_at-self.ensures.chance))
 
 pub returns-in-None-clause-none : goal.returns-in-None-clause-none
 returns-in-None-clause-none g c program before _ =

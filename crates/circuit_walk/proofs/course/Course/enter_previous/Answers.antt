@@ -3,7 +3,7 @@ use Rattle.std.proofs.Common.{◌≡◌, [], length, refl, ap, ◌∙◌, subst}
 use Rattle.cursor.specs.Places.{before_of}
 use Rattle.circuit_walk.specs.Meaning.{made_of}
 use Rattle.circuit_walk.specs.private.Walks.{is_step_maker, steps_of}
-use Rattle.circuit_walk.proofs.MoveLemmas.{IsReady, goes_inside, into_last, ready_before, sound_next}
+use Rattle.circuit_walk.proofs.MoveLemmas.{IsReady, goes_inside, into_last, mark_of, ready_before, sound_next}
 use Rattle.circuit_walk.proofs.course.Course.enter_previous.Goals as goal
 
 pub steps_at-here-requires : goal.steps_at-here-requires
@@ -21,8 +21,8 @@ returns-in-Some-clause-course g c program h =
     let ready = subst (λ is. IsReady n is old.counts old.steps) over.3.before (ready_before program old h c.requires.done) in
     let steps = c.steps_at-here.ensures.steps over.0 over.1 in
     goes_inside program old _ h refl refl refl refl c.in-Some.ensures.place
-    (into_last n old.text.items.now.items c.previous.new.self _ old.counts old.steps over.0 _ over.3.left ready
-    (record { operation = steps.operation; targets = steps.targets; flips = steps.flips; end = steps.end; fits = steps.fits }) refl sound.near)
+    (into_last n program.chances old.text.items.now.items c.previous.new.self _ old.counts old.steps over.0 _ over.3.left ready
+    (record { operation = steps.operation; targets = steps.targets; flips = steps.flips; end = steps.end; fits = steps.fits }) refl sound.near (mark_of program old.text _ over.0 c.steps_at-here.result.chance h.held over.1 c.steps_at-here.ensures.chance))
 
 pub returns-in-None-clause-none : goal.returns-in-None-clause-none
 unfolding made_of

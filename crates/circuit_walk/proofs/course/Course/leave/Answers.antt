@@ -11,4 +11,4 @@ returns-then-self-clause-course g c program h =
     let items = old.text.items.now.items in
     let moved = over_first items old.cursor c.next-over.new.self c.next-over.result within.instruction within.rest c.next-over.ensures.over within.left in
     goes_between program old _ h refl refl refl refl c.none-self.ensures.at c.none-self.ensures.end c.next-over.ensures.place
-    (subst (λ is. IsReady n is old.counts old.steps) (sym moved) (behind_last n items old.cursor old.here old.counts old.steps within c.requires.done))
+    (subst (λ is. IsReady n is old.counts old.steps) (sym moved) (behind_last n program.chances items old.cursor old.here old.counts old.steps within c.requires.done))

@@ -2,9 +2,11 @@
 use Rattle.std.proofs.Common.{◌≡◌, ◌-◌, sym, ap, ◌∙◌, subst, refl, arith}
 use Rattle.std.specs.Prelude.{slice_get}
 use Rattle.circuit_walk.specs.private.Walks.{AreCountsAt}
+use Rattle.circuit_walk.proofs.NamedSteps.{faced_named}
 use Rattle.circuit_walk.proofs.PlaceCounts.{counts_are, counts_of}
 use Rattle.circuit_walk.proofs.TakeLemmas.{goes_on, is_inside_behind}
-use Rattle.circuit_walk.proofs.BackLemmas.{below, stands_back, takes_back}
+use Rattle.circuit_walk.specs.private.Courses.{IsCourse}
+use Rattle.circuit_walk.proofs.BackLemmas.{below, stands_back, steps_at, takes_back}
 use Rattle.circuit_walk.proofs.course.Course.take_back.Goals as goal
 
 pub counts_before-self-requires : goal.counts_before-self-requires
@@ -37,7 +39,7 @@ returns-clause-step g c program course =
     let n = program.listing.qubits in
     let stands = stands_back program old back c.place_before-at.result c.counts_before-self.result (c.place_before-at.ensures.place back.k back.inside.instruction) (c.counts_before-self.ensures _ back.counts_are) in
     let place : old.steps - 1 ≡ back.place = omega (arith, back.place_is) in
-    ap (slice_get program.listing.steps) place ∙ back.listed_is ∙ (sym back.made ∙ c.step.ensures n back.k back.inside.instruction _ stands)
+    ap (slice_get program.listing.steps) place ∙ back.listed_is ∙ (sym back.made ∙ c.step.ensures.step n back.k back.inside.instruction _ stands)
 
 pub returns-clause-course : goal.returns-clause-course
 returns-clause-course g c program course =
@@ -53,6 +55,23 @@ returns-clause-course g c program course =
       k = back.k;
       left = h.left;
       stands = stands_back program old back c.place_before-at.result c.counts_before-self.result (c.place_before-at.ensures.place back.k h.instruction) counts;
+      marked = h.marked;
       place_is = omega (arith, h.place_is, back.number);
     })
     (subst (λ p. AreCountsAt program.listing.steps p c.counts_before-self.result) (sym place) (subst (AreCountsAt program.listing.steps back.place) (sym counts) (counts_are program.listing.steps back.place)))
+
+-- it stands behind the new place
+pub returns-clause-named : goal.returns-clause-named
+returns-clause-named g c program course =
+    let old = c.args.self.now in
+    let new = record old {
+      here = steps_at old.here c.place_before-at.result;
+      counts = c.counts_before-self.result;
+      steps = old.steps - 1;
+    } in
+    let moved : IsCourse program new = returns-clause-course g c program course in
+    let h = moved.inside (is_inside_behind program old course c.requires.facing) in
+    let n = program.listing.qubits in
+    let step = c.step.result in
+    faced_named program new moved h step (c.step.ensures.step n h.k h.instruction _ h.stands) c.step.ensures.names
+    (c.step.ensures.letters n h.k h.instruction _ h.stands)

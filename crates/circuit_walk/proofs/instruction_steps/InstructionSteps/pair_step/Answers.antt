@@ -10,3 +10,6 @@ pair_step-requires-clause-near_first c =
 pub pair_step-requires-clause-near_second : goal.pair_step-requires-clause-near_second
 pair_step-requires-clause-near_second c =
     near_target c.args.counts.records c.args.self.now.targets.now (c.args.self.now.at + 1) _ c.requires.near c.target-second.ensures
+
+pub returns-clause-names : goal.returns-clause-names
+returns-clause-names c d = c.pair_step.ensures.names c.args.self.now d

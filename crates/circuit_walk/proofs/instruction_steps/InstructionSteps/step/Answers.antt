@@ -11,6 +11,8 @@ use Rattle.stim_parser.specs.Limits.{products_of, qubit_of}
 use Rattle.circuit_walk.specs.Refusals.{reaches_far}
 use Rattle.circuit_walk.specs.StepsMade.{pair_made, pairs_made}
 use Rattle.circuit_walk.specs.Targets.{is_inverted, is_product_inverted, term_of}
+use Rattle.circuit_walk.specs.private.Names.{Lends}
+use Rattle.circuit_walk.proofs.LentLetters.{is_of}
 use Rattle.circuit_walk.proofs.ProductPlaces.{place_within}
 use Rattle.circuit_walk.proofs.ProductWords.{words_number}
 use Rattle.circuit_walk.proofs.StandLemmas.{fit_own, own, products_of_form, second_there, two_of}
@@ -50,8 +52,8 @@ pub product_step-requires-clause-products : goal.product_step-requires-clause-pr
 product_step-requires-clause-products c =
     products_of_form c.args.self.now.targets.now (fit_own c.requires.stands.0 c.args.self.now _ c.requires.stands.3.steps c.in-ProductMeasurement.is).form
 
-pub returns-then-arity-eq1 : goal.returns-then-arity-eq1
-returns-then-arity-eq1 c n k i b st =
+pub returns-then-arity-eq1-clause-step : goal.returns-then-arity-eq1-clause-step
+returns-then-arity-eq1-clause-step c n k i b st =
     let g = c.in-Applies.gate in
     let ts = c.args.self.now.targets.now in
     let o = own n i b c.args.self.now c.args.counts k _ st c.in-Applies.is in
@@ -63,10 +65,10 @@ returns-then-arity-eq1 c n k i b st =
     ap (λ steps. slice_get steps k) o.made
     ∙ ap (λ (single : Bool). slice_get (if single then map (λ target. One g (qubit_of target)) ts else pairs_made n b.records g ts) k) one
     ∙ of_each (λ target. One g (qubit_of target)) ts k t.0 got
-    ∙ ap (λ step. Some step) (sym (c.single_step.ensures n t.0 t.1))
+    ∙ ap (λ step. Some step) (sym (c.single_step.ensures.step n t.0 t.1))
 
-pub returns-else-arity-eq1 : goal.returns-else-arity-eq1
-returns-else-arity-eq1 c n k i b st =
+pub returns-else-arity-eq1-clause-step : goal.returns-else-arity-eq1-clause-step
+returns-else-arity-eq1-clause-step c n k i b st =
     let g = c.in-Applies.gate in
     let ts = c.args.self.now.targets.now in
     let at = c.args.self.now.at in
@@ -81,10 +83,10 @@ returns-else-arity-eq1 c n k i b st =
     ∙ ap (λ (single : Bool). slice_get (if single then map (λ target. One g (qubit_of target)) ts else pairs_made n b.records g ts) k) two
     ∙ pair_at n b.records g ts k first.0 second.0 (subst (λ j. slice_get ts j ≡ Some first.0) at_k first.1) (subst (λ j. slice_get ts (j + 1) ≡ Some second.0) at_k second.1)
     ∙ ap (λ r. Some (pair_made n r g first.0 second.0)) records
-    ∙ ap (λ step. Some step) (sym (c.pair_step.ensures n first.0 second.0 first.1 second.1))
+    ∙ ap (λ step. Some step) (sym (c.pair_step.ensures.step n first.0 second.0 first.1 second.1))
 
-pub returns-in-PauliError : goal.returns-in-PauliError
-returns-in-PauliError c n k i b st =
+pub returns-in-PauliError-clause-step : goal.returns-in-PauliError-clause-step
+returns-in-PauliError-clause-step c n k i b st =
     let ts = c.args.self.now.targets.now in
     let o = own n i b c.args.self.now c.args.counts k _ st c.in-PauliError.is in
     let t = there_is ts c.args.self.now.at (omega (arith, c.requires.there, o.end)) in
@@ -95,28 +97,28 @@ returns-in-PauliError c n k i b st =
     ∙ ap (λ f. Some (Fault f)) number
     ∙ ap (λ step. Some step) (sym (c.letter_fault.ensures.step n))
 
-pub returns-in-Measurement : goal.returns-in-Measurement
-returns-in-Measurement c n k i b st =
+pub returns-in-Measurement-clause-step : goal.returns-in-Measurement-clause-step
+returns-in-Measurement-clause-step c n k i b st =
     let ts = c.args.self.now.targets.now in
     let o = own n i b c.args.self.now c.args.counts k _ st c.in-Measurement.is in
     let t = there_is ts c.args.self.now.at (omega (arith, c.requires.there, o.end)) in
     let got : slice_get ts k ≡ Some t.0 = subst (λ j. slice_get ts j ≡ Some t.0) o.place.0 t.1 in
     ap (λ steps. slice_get steps k) o.made
     ∙ collapse_at b i.arguments (λ (target : Target). Word (lone_letter n (qubit_of target) c.in-Measurement.letter)) is_inverted ts k t.0 c.args.counts c.args.self.now.flips got o.flips o.records o.faults
-    ∙ ap (λ step. Some step) (sym (c.measurement.ensures n t.0 t.1))
+    ∙ ap (λ step. Some step) (sym (c.measurement.ensures.step n t.0 t.1))
 
-pub returns-in-MeasurementReset : goal.returns-in-MeasurementReset
-returns-in-MeasurementReset c n k i b st =
+pub returns-in-MeasurementReset-clause-step : goal.returns-in-MeasurementReset-clause-step
+returns-in-MeasurementReset-clause-step c n k i b st =
     let ts = c.args.self.now.targets.now in
     let o = own n i b c.args.self.now c.args.counts k _ st c.in-MeasurementReset.is in
     let t = there_is ts c.args.self.now.at (omega (arith, c.requires.there, o.end)) in
     let got : slice_get ts k ≡ Some t.0 = subst (λ j. slice_get ts j ≡ Some t.0) o.place.0 t.1 in
     ap (λ steps. slice_get steps k) o.made
     ∙ collapse_at b i.arguments (λ (target : Target). Reset c.in-MeasurementReset.letter (qubit_of target)) is_inverted ts k t.0 c.args.counts c.args.self.now.flips got o.flips o.records o.faults
-    ∙ ap (λ step. Some step) (sym (c.measurement-in-MeasurementReset.ensures n t.0 t.1))
+    ∙ ap (λ step. Some step) (sym (c.measurement-in-MeasurementReset.ensures.step n t.0 t.1))
 
-pub returns-in-QubitReset : goal.returns-in-QubitReset
-returns-in-QubitReset c n k i b st =
+pub returns-in-QubitReset-clause-step : goal.returns-in-QubitReset-clause-step
+returns-in-QubitReset-clause-step c n k i b st =
     let ts = c.args.self.now.targets.now in
     let l = c.in-QubitReset.letter in
     let o = own n i b c.args.self.now c.args.counts k _ st c.in-QubitReset.is in
@@ -124,10 +126,10 @@ returns-in-QubitReset c n k i b st =
     let got : slice_get ts k ≡ Some t.0 = subst (λ j. slice_get ts j ≡ Some t.0) o.place.0 t.1 in
     ap (λ steps. slice_get steps k) o.made
     ∙ of_each (λ (target : Target). Collapse (Reset l (qubit_of target)) None) ts k t.0 got
-    ∙ ap (λ step. Some step) (sym (c.reset.ensures n t.0 t.1))
+    ∙ ap (λ step. Some step) (sym (c.reset.ensures.step n t.0 t.1))
 
-pub returns-in-ProductMeasurement : goal.returns-in-ProductMeasurement
-returns-in-ProductMeasurement c n k i b st =
+pub returns-in-ProductMeasurement-clause-step : goal.returns-in-ProductMeasurement-clause-step
+returns-in-ProductMeasurement-clause-step c n k i b st =
     let ts = c.args.self.now.targets.now in
     let o = own n i b c.args.self.now c.args.counts k _ st c.in-ProductMeasurement.is in
     let inside : k < length (products_of ts) =
@@ -135,4 +137,52 @@ returns-in-ProductMeasurement c n k i b st =
     let product = get_or (products_of ts) k [] in
     ap (λ steps. slice_get steps k) o.made
     ∙ collapse_at b i.arguments (λ (p : List Target). Word (word_of_terms n (map term_of p))) is_product_inverted (products_of ts) k product c.args.counts c.args.self.now.flips (slice_get-get_or (products_of ts) k [] inside) o.flips o.records o.faults
-    ∙ ap (λ step. Some step) (sym (c.product_step.ensures n k o.place.0 inside))
+    ∙ ap (λ step. Some step) (sym (c.product_step.ensures.step n k o.place.0 inside))
+
+-- ---- faults and letters
+
+pub returns-then-arity-eq1-clause-names : goal.returns-then-arity-eq1-clause-names
+returns-then-arity-eq1-clause-names c = c.single_step.ensures.names c.args.counts
+
+pub returns-then-arity-eq1-clause-letters : goal.returns-then-arity-eq1-clause-letters
+returns-then-arity-eq1-clause-letters c n k i b st = c.single_step.ensures.letters n k i b
+
+pub returns-else-arity-eq1-clause-names : goal.returns-else-arity-eq1-clause-names
+returns-else-arity-eq1-clause-names c = c.pair_step.ensures.names c.args.counts
+
+pub returns-else-arity-eq1-clause-letters : goal.returns-else-arity-eq1-clause-letters
+returns-else-arity-eq1-clause-letters c n k i b st = c.pair_step.ensures.letters n k i b
+
+pub returns-in-Measurement-clause-letters : goal.returns-in-Measurement-clause-letters
+returns-in-Measurement-clause-letters c n k i b st = c.measurement.ensures.letters n k i b
+
+pub returns-in-MeasurementReset-clause-letters : goal.returns-in-MeasurementReset-clause-letters
+returns-in-MeasurementReset-clause-letters c n k i b st = c.measurement-in-MeasurementReset.ensures.letters n k i b
+
+pub returns-in-QubitReset-clause-names : goal.returns-in-QubitReset-clause-names
+returns-in-QubitReset-clause-names c = c.reset.ensures.names c.args.counts
+
+pub returns-in-QubitReset-clause-letters : goal.returns-in-QubitReset-clause-letters
+returns-in-QubitReset-clause-letters c n k i b st = c.reset.ensures.letters n k i b
+
+pub returns-in-PauliError-clause-letters : goal.returns-in-PauliError-clause-letters
+returns-in-PauliError-clause-letters c n k i b st =
+    let s = c.args.self.now in
+    let o = own n i b s c.args.counts k _ st c.in-PauliError.is in
+    subst (λ j. Lends n b i j c.letter_fault.result) o.place.0 (c.letter_fault.ensures.letters n i b (is_of i s _ st.steps c.in-PauliError.is))
+
+pub returns-in-ProductMeasurement-clause-letters : goal.returns-in-ProductMeasurement-clause-letters
+returns-in-ProductMeasurement-clause-letters c n k i b st =
+    let s = c.args.self.now in
+    let ts = s.targets.now in
+    let o = own n i b s c.args.counts k _ st c.in-ProductMeasurement.is in
+    let inside : k < length (products_of ts) =
+    omega (arith, words_number ts, place_within ts k (omega (arith, o.place.0, c.requires.there, o.end))) in
+    c.product_step.ensures.letters n k i b (is_of i s _ st.steps c.in-ProductMeasurement.is) o.place.0 inside
+
+pub returns-in-CorrelatedError-clause-letters : goal.returns-in-CorrelatedError-clause-letters
+returns-in-CorrelatedError-clause-letters c n k i b st =
+    let s = c.args.self.now in
+    let o = own n i b s c.args.counts k _ st c.in-CorrelatedError.is in
+    let first : 0 ≡ k = omega (arith, o.place.0, c.requires.there, o.end) in
+    subst (λ j. Lends n b i j c.product_fault.result) first (c.product_fault.ensures.letters n i b (is_of i s _ st.steps c.in-CorrelatedError.is))
