@@ -3,7 +3,7 @@ use std::alloc::{AllocError, Global};
 use std::test::Fail;
 use step_model::Fault;
 use stim_parser::{
-    Circuit, Item, Target, Targets, first_argument, first_number, laws, parse, read_coordinates,
+    Circuit, Item, Target, TargetWord, first_argument, first_number, laws, parse, read_coordinates,
 };
 
 /// A text, and its items, in order: of an instruction its line, its operation, its arguments and its targets, of the start of a
@@ -49,7 +49,6 @@ const WRITTEN: &[(&[u8], &str)] = &[
         "1 Measurement(Z) [] 0 !1 4095 !4095; 2 CorrelatedError [0.1] X4095 Y0; \
          3 ProductMeasurement [] !Z4095 * X1 !Y2 * Z3;",
     ),
-    // Where a number is 2^16 or more, all targets of its instruction are kept otherwise than those of the others.
     (
         b"DETECTOR rec[-65535] rec[-65536]\nCX rec[-70000] 1\nDETECTOR rec[-1]",
         "1 DetectorDeclaration [] <65535 <65536; 2 Applies(CX) [] <70000 1; 3 DetectorDeclaration [] <1;",
@@ -64,12 +63,12 @@ const WRITTEN: &[(&[u8], &str)] = &[
 
 fn target_words(alloc: Global, target: Target) -> Result<String, AllocError> {
     match target {
-        Target::Plain(number) => format!(in alloc; " {}", number.value()),
-        Target::Inverted(qubit) => format!(in alloc; " !{}", qubit.value()),
-        Target::Back(back) => format!(in alloc; " <{}", back.value()),
+        Target::Plain(number) => format!(in alloc; " {}", number),
+        Target::Inverted(qubit) => format!(in alloc; " !{}", qubit),
+        Target::Back(back) => format!(in alloc; " <{}", back),
         Target::Pauli(inverted, letter, qubit) => {
             let sign = if inverted { "!" } else { "" };
-            format!(in alloc; " {sign}{letter:?}{}", qubit.value())
+            format!(in alloc; " {sign}{letter:?}{}", qubit)
         }
         Target::Star => String::from_str(alloc, " *"),
     }
@@ -80,16 +79,12 @@ fn put_target(alloc: Global, text: &mut String, target: Target) -> Result<(), Al
     text.push_str(words.as_str())
 }
 
-/// Puts the targets, which are as many as they say.
-fn put_targets(alloc: Global, text: &mut String, targets: Targets<'_>) -> Result<(), AllocError> {
-    let mut rest = targets;
-    for _ in 0..targets.len() {
-        if let Some((target, after)) = rest.split_first() {
-            put_target(alloc, text, target)?;
-            rest = after;
-        }
+/// Puts the targets.
+fn put_targets(alloc: Global, text: &mut String, targets: &[TargetWord]) -> Result<(), AllocError> {
+    for target in targets {
+        put_target(alloc, text, target.get())?;
     }
-    text.push_str(if rest.is_empty() { ";" } else { " and more;" })
+    text.push_str(";")
 }
 
 /// What stands in front of an item's targets.
