@@ -71,7 +71,7 @@ not_more g k m h = by_arity (arity_of g == 1) refl
     by_arity true e = omega (arith, subst (λ a. a * k ≤ a * m) (eqb-true (arity_of g) 1 e) h)
     by_arity false e = omega (arith, subst (λ a. a * k ≤ a * m) (two_of g e) h)
 
-same_of : (g : Gate) (k m : ℕ) → arity_of g * k ≡ arity_of g * m → k ≡ m
+pub same_of : (g : Gate) (k m : ℕ) → arity_of g * k ≡ arity_of g * m → k ≡ m
 same_of g k m h = by_arity (arity_of g == 1) refl
   where
     by_arity : (one : Bool) → (arity_of g == 1) ≡ one → k ≡ m

@@ -14,6 +14,8 @@ pub mod MadeFaults
 pub mod MadeNumbers
 pub mod MeaningLemmas
 pub mod MoveLemmas
+pub mod MovedInstructions
+pub mod MovedLists
 pub mod NamedFaults
 pub mod NamedSteps
 pub mod NumberLemmas
@@ -32,6 +34,10 @@ pub mod StepsFit
 pub mod TakeLemmas
 pub mod TargetLemmas
 pub mod TargetQubits
+pub mod TurnCounts
+pub mod TurnCourses
+pub mod TurnRepeats
+pub mod TwiceInLists
 pub mod WellFormedPrograms
 pub mod WithinLimits
 pub mod WordsApart

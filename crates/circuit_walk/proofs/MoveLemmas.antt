@@ -1,7 +1,7 @@
 -- A course from one instruction to the next, and to the one before.
 use Rattle.std.proofs.Common.{◌≡◌, ◌*◌, ℕ, Bool, true, false, List, [], ◌∷◌, ◌++◌, Option, None, Some, length, length-append, append-nil, refl, sym, ap, ◌∙◌, subst, arith}
 use Rattle.std.specs.Prelude.{slice_get, slice_index_or}
-use Rattle.cursor.specs.Moves.{GoesOver}
+use Rattle.cursor.specs.Moves.{Faces, GoesOver}
 use Rattle.cursor.specs.Places.{StandsIn, before_of, left_of}
 use Rattle.cursor.specs.declared.cursor.Cursor.{Cursor}
 use Rattle.step_model.specs.declared.chances.ChanceText.{ChanceText}
@@ -83,13 +83,14 @@ behind_last n chances items cursor s c place h at =
 
 -- ---- into an instruction
 
-pub into_first : (n : ℕ) (chances : List ChanceText) (items : List (Item Instruction)) (cursor : Cursor) (s : InstructionSteps) (c : Counts) (place : ℕ) (i : Instruction) (rest : List Instruction) → left_of is_step_maker items cursor ≡ i ∷ rest → IsReady n (before_of is_step_maker items cursor) c place → AreStepsOf i s → s.at ≡ 0 → reaches_far (state_at n items cursor).records i.targets ≡ false → Marks chances (chance_taken circuit_table i.operation i.arguments) s.chance → IsInside n chances items cursor s c place
-into_first n chances items cursor s c place i rest left ready steps at near marked =
+pub into_first : (n : ℕ) (chances : List ChanceText) (items : List (Item Instruction)) (cursor : Cursor) (s : InstructionSteps) (c : Counts) (place : ℕ) (i : Instruction) (rest : List Instruction) → left_of is_step_maker items cursor ≡ i ∷ rest → Faces is_step_maker items cursor.index → IsReady n (before_of is_step_maker items cursor) c place → AreStepsOf i s → s.at ≡ 0 → reaches_far (state_at n items cursor).records i.targets ≡ false → Marks chances (chance_taken circuit_table i.operation i.arguments) s.chance → IsInside n chances items cursor s c place
+into_first n chances items cursor s c place i rest left faced ready steps at near marked =
     record {
       instruction = i;
       rest = rest;
       k = 0;
       left = left;
+      faced = faced;
       stands = record {
         steps = steps;
         place = subst (λ p. IsAt i.operation i.targets p 0) (sym at) (ends n (state_at n items cursor) i steps.fits).start;
@@ -100,8 +101,8 @@ into_first n chances items cursor s c place i rest left ready steps at near mark
       place_is = omega (arith, ready.place_is);
     }
 
-pub into_last : (n : ℕ) (chances : List ChanceText) (items : List (Item Instruction)) (cursor : Cursor) (s : InstructionSteps) (c : Counts) (place : ℕ) (i : Instruction) (rest : List Instruction) → left_of is_step_maker items cursor ≡ i ∷ rest → IsReady n (before_of is_step_maker items cursor ++ i ∷ []) c place → AreStepsOf i s → s.at ≡ s.end → reaches_far (state_at n items cursor).records i.targets ≡ false → Marks chances (chance_taken circuit_table i.operation i.arguments) s.chance → IsInside n chances items cursor s c place
-into_last n chances items cursor s c place i rest left ready steps at near marked =
+pub into_last : (n : ℕ) (chances : List ChanceText) (items : List (Item Instruction)) (cursor : Cursor) (s : InstructionSteps) (c : Counts) (place : ℕ) (i : Instruction) (rest : List Instruction) → left_of is_step_maker items cursor ≡ i ∷ rest → Faces is_step_maker items cursor.index → IsReady n (before_of is_step_maker items cursor ++ i ∷ []) c place → AreStepsOf i s → s.at ≡ s.end → reaches_far (state_at n items cursor).records i.targets ≡ false → Marks chances (chance_taken circuit_table i.operation i.arguments) s.chance → IsInside n chances items cursor s c place
+into_last n chances items cursor s c place i rest left faced ready steps at near marked =
     let b = state_at n items cursor in
     let before = before_of is_step_maker items cursor in
     let count = length (new_steps n b i) in
@@ -111,6 +112,7 @@ into_last n chances items cursor s c place i rest left ready steps at near marke
       rest = rest;
       k = count;
       left = left;
+      faced = faced;
       stands = record {
         steps = steps;
         place = subst (λ p. IsAt i.operation i.targets p count) (sym (at ∙ steps.end)) (ends n b i steps.fits).end;

@@ -200,6 +200,7 @@ moves program c course inside errors e at faults steps le number place =
       rest = h.rest;
       k = at;
       left = h.left;
+      faced = h.faced;
       stands = record {
         steps = record { operation = s.operation; targets = s.targets; flips = s.flips; end = s.end; fits = s.fits };
         place = is.stands i.targets at (omega (arith, le, s.end));

@@ -1,9 +1,9 @@
 -- A course over one step of the instruction that it is inside, forward and back.
-use Rattle.std.proofs.Common.{◌≡◌, ◌≢◌, ◌≤◌, ◌<◌, ◌+◌, ℕ, Bool, true, false, if◌then◌else◌, List, [], ◌∷◌, ◌++◌, length, length-append, Option, None, Some, refl, sym, ap, ◌∙◌, subst, arith}
+use Rattle.std.proofs.Common.{◌≡◌, ◌≢◌, ◌≤◌, ◌<◌, ◌+◌, ◌^◌, ℕ, Bool, true, false, if◌then◌else◌, List, [], ◌∷◌, ◌++◌, length, length-append, get_or, Option, None, Some, refl, sym, ap, ◌∙◌, subst, arith}
 use Rattle.std.specs.Prelude.{slice_get, take}
 use Rattle.std.specs.Option.{option_to_list}
 use Rattle.std.proofs.lemmas.List.{length-take}
-use Rattle.std.proofs.lemmas.Option.{slice_get_within}
+use Rattle.std.proofs.lemmas.Option.{slice_get-get_or, slice_get_within}
 use Rattle.cursor.specs.Places.{StandsIn, before_of}
 use Rattle.step_model.specs.Listing.{ListedStep, One, Two, Collapse, Fault, Feedback, Recorded, is_collapse, step_records}
 use Rattle.step_model.specs.WellFormed.{collapse_count, faults_named, records_made, step_faults}
@@ -72,6 +72,19 @@ step_at program c course h k s got =
     ∙ ap (λ m. steps_of m (makers_of tree)) (sym (ap (λ l. l.qubits) course.held.listing))
     ∙ ap (steps_of n) (sym whole) in
     ap (λ steps. slice_get steps (length (steps_of n before) + k)) all ∙ step_inside n before h.instruction h.rest k s got
+
+-- where the place isn't the end, a step is there
+pub step_there : {A : Type 0} (program : KeptProgram) (c : Course A) → IsCourse program c → c.here.at ≢ c.here.end → c.steps < length program.listing.steps
+step_there program c course facing =
+    let h = inside_before program c course facing in
+    let n = program.listing.qubits in
+    let b = state_at n c.text.items.now.items c.cursor in
+    let below = below_end program c h facing in
+    let inside = (ends n b h.instruction h.stands.steps.fits).inside c.here.at h.k h.stands.place (omega (arith, below, h.stands.steps.end)) in
+    let made = new_steps n b h.instruction in
+    let s = get_or made h.k (Fault 0) in
+    let got = step_at program c course h h.k s (slice_get-get_or made h.k (Fault 0) inside) in
+    slice_get_within program.listing.steps c.steps s (subst (λ p. slice_get program.listing.steps p ≡ Some s) (sym h.place_is) got)
 
 -- ---- no more records, collapses and faults than steps
 
@@ -164,3 +177,11 @@ goes_on program old new course inside text cursor within counted =
   where
     both : true ≡ false → ⊥
     both e = cc
+
+-- so the counts behind it fit 32 bits
+pub counts_fit : {A : Type 0} (program : KeptProgram) (c : Course A) → IsCourse program c → c.here.at ≢ c.here.end → c.text.totals.steps < 2 ^ 32 → (c.counts.records + 1 < 2 ^ 32) × (c.counts.collapses + 1 < 2 ^ 32) × (c.counts.faults + 1 < 2 ^ 32) × (c.steps + 1 < 2 ^ 32)
+counts_fit program c course facing few =
+    let there = step_there program c course facing in
+    let fewer = counts_few program.listing.steps c.steps c.counts course.counted in
+    let total : c.text.totals.steps ≡ length program.listing.steps = course.held.totals_are.steps ∙ sym (ap (λ l. length l.steps) course.held.listing) in
+    (omega (arith, there, fewer.0, total, few), omega (arith, there, fewer.1, total, few), omega (arith, there, fewer.2, total, few), omega (arith, there, total, few))

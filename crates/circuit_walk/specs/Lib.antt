@@ -14,5 +14,6 @@ pub mod StepsMade
 pub mod Targets
 pub mod TargetsMade
 pub mod Totals
+pub mod Turns
 pub mod Walks
 pub mod private

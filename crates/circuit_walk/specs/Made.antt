@@ -4,7 +4,7 @@ use Rattle.std.specs.Prelude.{◌≡◌, length, None}
 use Rattle.step_model.specs.Listing.{Listing}
 use Rattle.stim_lexer.specs.Fitting.{IsWritten}
 use Rattle.stim_lexer.specs.Flat.{tree_of}
-use Rattle.stim_parser.specs.Circuits.{Fits}
+use Rattle.stim_parser.specs.Circuits.{Fits, IsCircuit}
 use Rattle.stim_parser.specs.Probabilities.{Keeps}
 use Rattle.stim_parser.specs.Trees.{Tree}
 use Rattle.stim_parser.specs.Verdicts.{circuit_table}
@@ -20,7 +20,13 @@ circuit_of parts = tree_of parts.read.items.items
 
 -- the program that they make
 abbrev pub kept_program : {A : Type 0} → Parts A → KeptProgram
-kept_program parts = record { listing = listing_of (circuit_of parts); chances = parts.read.texts.items }
+kept_program parts = record { circuit = circuit_of parts; listing = listing_of (circuit_of parts); chances = parts.read.texts.items }
+
+-- a circuit is accepted, and a program is what it lists
+pub record IsAcceptedAs (circuit : Tree) (program : Listing) : Type 0 where
+  pub built : IsCircuit circuit
+  pub accepted : circuit_refusal circuit ≡ None
+  pub listing : program ≡ listing_of circuit
 
 -- these are the totals of a program
 pub record AreTotals (program : Listing) (totals : Totals) : Type 0 where

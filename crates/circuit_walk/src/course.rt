@@ -110,9 +110,8 @@ impl<'a, 'p, A: Allocator + Copy> Course<'a, 'p, A> {
         ensures nearer { moves_ahead self.new ≤ moves_ahead self.old }
     {
         if self.inside {
-            let _over = self
-                .cursor
-                .next::<StepMakers, Operation, TargetWord, A>(self.text.items);
+            self.cursor
+                .pass::<StepMakers, Operation, TargetWord, A>(self.text.items);
             self.here = InstructionSteps::none();
             self.inside = false;
         }
@@ -164,7 +163,11 @@ impl<'a, 'p, A: Allocator + Copy> Course<'a, 'p, A> {
                 self.inside = true;
                 true
             }
-            None => false,
+            None => {
+                self.here = InstructionSteps::none();
+                self.inside = false;
+                false
+            }
         }
     }
 
@@ -217,12 +220,11 @@ impl<'a, 'p, A: Allocator + Copy> Course<'a, 'p, A> {
         ensures place { self.new.steps ≡ self.old.steps + 1 }
     {
         self.text.fits();
-        let step = self.here.step(self.counts);
-        let at = self.here.place_behind();
-        self.here.at = at;
-        self.counts = self.here.counts_behind(self.counts);
+        let taken = self.here.next(self.counts);
+        self.here.at = taken.at;
+        self.counts = taken.counts;
         self.steps += 1;
-        step
+        taken.step
     }
 
     /// Answers the step that stands right before the place, and goes back over it.

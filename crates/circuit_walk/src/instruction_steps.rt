@@ -9,7 +9,6 @@ ghost use Rattle.circuit_walk.specs.Steps.{listed, measured, number_of};
 ghost use Rattle.circuit_walk.specs.StepsMade.{pair_made};
 ghost use Rattle.circuit_walk.specs.Targets.{is_inverted};
 ghost use Rattle.circuit_walk.specs.private.InstructionSteps.{IsAt, AreStepsOf, Stands, counts_behind, end_of, has_argument, made_by, product_made, product_words, recorded_at, words_length};
-ghost use Rattle.circuit_walk.specs.Makes.{makes_collapses, makes_faults, makes_records};
 ghost use Rattle.circuit_walk.specs.private.Names.{IsNext, IsOf, Lends, NamesNext};
 ghost use Rattle.step_model.specs.Listing.{Collapse, Fault, One, Reset};
 ghost use Rattle.stim_parser.specs.Limits.{are_products, products_of, qubit_of};
@@ -20,7 +19,7 @@ ghost use Rattle.stim_parser.specs.declared.operation.Operation.TheVariants.{Cor
 
 use crate::letters::{Letters, qubit_of};
 use crate::pairs::pair_step;
-use crate::products::{is_inverted, is_product_inverted, product_before, product_behind};
+use crate::products::{is_inverted, is_product_inverted, product_behind};
 use crate::step::{Counts, FaultName, Step};
 use gate_table::Gate;
 use pauli_word::Letter;
@@ -38,6 +37,14 @@ pub(crate) struct InstructionSteps<'c> {
     /// A place among its targets, from 0 to `end`.
     pub at: usize,
     pub end: usize,
+}
+
+/// A step, the place behind it among the targets, and the counts behind it.
+#[derive(Clone, Copy)]
+pub(crate) struct Taken<'c> {
+    pub step: Step<'c>,
+    pub at: usize,
+    pub counts: Counts,
 }
 
 /// The last place of an operation with so many targets.
@@ -58,33 +65,6 @@ fn end_of(operation: Operation, targets: &[TargetWord]) -> usize
         | Operation::Tick
         | Operation::QubitCoordinates
         | Operation::CoordinateShift => 0,
-    }
-}
-
-#[inline(always)]
-fn makes_records(operation: Operation) -> bool
-    ensures { result ≡ makes_records operation }
-{
-    matches!(
-        operation,
-        Operation::Measurement(_) | Operation::MeasurementReset(_) | Operation::ProductMeasurement
-    )
-}
-
-#[inline(always)]
-fn makes_collapses(operation: Operation) -> bool
-    ensures { result ≡ makes_collapses operation }
-{
-    matches!(operation, Operation::QubitReset(_)) || makes_records(operation)
-}
-
-#[inline(always)]
-fn makes_faults(operation: Operation, flips: bool) -> bool
-    ensures { result ≡ makes_faults operation flips }
-{
-    match operation {
-        Operation::PauliError(_) | Operation::CorrelatedError => true,
-        _ => flips && makes_records(operation),
     }
 }
 
@@ -324,64 +304,139 @@ impl<'c> InstructionSteps<'c> {
         }
     }
 
-    /// The place behind the step that stands behind the place.
+    /// The counts behind a step that is a fault.
     #[inline(always)]
-    pub(crate) fn place_behind(&self) -> usize
-        requires stands { (i : Instruction) × (k : ℕ) × AreStepsOf i self.now
-            × IsAt i.operation i.targets self.now.at k }
-        requires there { self.now.at < self.now.end }
-        ensures place { (k : ℕ) (i : Instruction) → AreStepsOf i self.now → IsAt i.operation i.targets self.now.at k
-            → IsAt i.operation i.targets result (k + 1) }
-        ensures within { result ≤ self.now.end }
+    fn behind_fault(counts: Counts) -> Counts
+        requires { counts.faults + 1 < 2 ^ 32 }
+        ensures { result ≡ record counts { faults = counts.faults + 1 } }
     {
-        match self.operation {
-            Operation::Applies(gate) => self.at + gate.arity() as usize,
-            Operation::ProductMeasurement => product_behind(self.targets, self.at),
-            _ => self.at + 1,
+        Counts {
+            records: counts.records,
+            collapses: counts.collapses,
+            faults: counts.faults + 1,
         }
     }
 
-    /// The place before the step that stands before the place.
+    /// The counts behind a step that is a collapse without a record.
     #[inline(always)]
-    pub(crate) fn place_before(&self) -> usize
-        requires stands { (i : Instruction) × (k : ℕ) × AreStepsOf i self.now
-            × IsAt i.operation i.targets self.now.at k }
-        requires there { 0 < self.now.at }
-        ensures place { (k : ℕ) (i : Instruction) → AreStepsOf i self.now → IsAt i.operation i.targets self.now.at (k + 1)
-            → IsAt i.operation i.targets result k }
+    fn behind_reset(counts: Counts) -> Counts
+        requires { counts.collapses + 1 < 2 ^ 32 }
+        ensures { result ≡ record counts { collapses = counts.collapses + 1 } }
     {
-        match self.operation {
-            Operation::Applies(gate) => self.at - gate.arity() as usize,
-            Operation::ProductMeasurement => product_before(self.targets, self.at),
-            _ => self.at - 1,
+        Counts {
+            records: counts.records,
+            collapses: counts.collapses + 1,
+            faults: counts.faults,
         }
     }
 
-    /// The counts behind a step, from those before it.
+    /// The counts behind a step that is a collapse with a record.
     #[inline(always)]
-    pub(crate) fn counts_behind(&self, counts: Counts) -> Counts
+    fn behind_record(&self, counts: Counts) -> Counts
         requires records { counts.records + 1 < 2 ^ 32 }
         requires collapses { counts.collapses + 1 < 2 ^ 32 }
         requires faults { counts.faults + 1 < 2 ^ 32 }
-        ensures { result ≡ counts_behind self.now.operation self.now.flips counts }
+        ensures { result ≡ counts_behind ProductMeasurement self.now.flips counts }
     {
         Counts {
-            records: counts.records + makes_records(self.operation) as u32,
-            collapses: counts.collapses + makes_collapses(self.operation) as u32,
-            faults: counts.faults + makes_faults(self.operation, self.flips) as u32,
+            records: counts.records + 1,
+            collapses: counts.collapses + 1,
+            faults: counts.faults + self.flips as u32,
         }
     }
 
-    /// The counts before a step, from those behind it.
+    /// The step behind the place, and where it leads. One question to the operation answers all of it, since a walk asks it
+    /// for each step.
     #[inline(always)]
-    pub(crate) fn counts_before(&self, counts: Counts) -> Counts
-        requires { (before : Counts) × (counts ≡ counts_behind self.now.operation self.now.flips before) }
-        ensures { (before : Counts) → counts ≡ counts_behind self.now.operation self.now.flips before → result ≡ before }
+    pub(crate) fn next(&self, counts: Counts) -> Taken<'c>
+        requires stands { (i : Instruction) × (b : Before) × (k : ℕ) × Stands i b self.now counts k }
+        requires there { self.now.at < self.now.end }
+        requires records { counts.records + 1 < 2 ^ 32 }
+        requires collapses { counts.collapses + 1 < 2 ^ 32 }
+        requires faults { counts.faults + 1 < 2 ^ 32 }
+        ensures step { (n k : ℕ) (i : Instruction) (b : Before) → Stands i b self.now counts k
+            → slice_get (new_steps n b i) k ≡ Some (listed n result.step) }
+        ensures names { NamesNext self.now counts result.step }
+        ensures letters { (n k : ℕ) (i : Instruction) (b : Before) → Stands i b self.now counts k
+            → Lends n b i k result.step }
+        ensures place { (k : ℕ) (i : Instruction) → AreStepsOf i self.now → IsAt i.operation i.targets self.now.at k
+            → IsAt i.operation i.targets result.at (k + 1) }
+        ensures within { result.at ≤ self.now.end }
+        ensures counts { result.counts ≡ counts_behind self.now.operation self.now.flips counts }
     {
-        Counts {
-            records: counts.records - makes_records(self.operation) as u32,
-            collapses: counts.collapses - makes_collapses(self.operation) as u32,
-            faults: counts.faults - makes_faults(self.operation, self.flips) as u32,
+        let next = self.at + 1;
+        match self.operation {
+            Operation::Applies(gate) => {
+                if gate.arity() == 1 {
+                    let step = self.single_step(gate);
+                    Taken {
+                        step,
+                        at: next,
+                        counts,
+                    }
+                } else {
+                    let step = self.pair_step(gate, counts);
+                    Taken {
+                        step,
+                        at: next + 1,
+                        counts,
+                    }
+                }
+            }
+            Operation::PauliError(letter) => {
+                let step = self.letter_fault(letter, counts);
+                Taken {
+                    step,
+                    at: next,
+                    counts: InstructionSteps::behind_fault(counts),
+                }
+            }
+            Operation::Measurement(letter) => {
+                let step = self.measurement(letter, false, counts);
+                Taken {
+                    step,
+                    at: next,
+                    counts: self.behind_record(counts),
+                }
+            }
+            Operation::MeasurementReset(letter) => {
+                let step = self.measurement(letter, true, counts);
+                Taken {
+                    step,
+                    at: next,
+                    counts: self.behind_record(counts),
+                }
+            }
+            Operation::QubitReset(letter) => {
+                let step = self.reset(letter);
+                Taken {
+                    step,
+                    at: next,
+                    counts: InstructionSteps::behind_reset(counts),
+                }
+            }
+            Operation::ProductMeasurement => {
+                let at = product_behind(self.targets, self.at);
+                let step = self.product_step(counts);
+                Taken {
+                    step,
+                    at,
+                    counts: self.behind_record(counts),
+                }
+            }
+            Operation::CorrelatedError => {
+                let step = self.product_fault(counts);
+                Taken {
+                    step,
+                    at: next,
+                    counts: InstructionSteps::behind_fault(counts),
+                }
+            }
+            Operation::DetectorDeclaration
+            | Operation::ObservableInclude
+            | Operation::Tick
+            | Operation::QubitCoordinates
+            | Operation::CoordinateShift => unreachable!(),
         }
     }
 }

@@ -11,6 +11,9 @@ mod pairs;
 mod products;
 mod program;
 mod step;
+mod steps_back;
+mod turn_course;
+mod turns;
 mod walk;
 
 pub use fault_walk::{FoundFault, next_fault};

@@ -1,17 +1,19 @@
 //! Programs: circuits as their text writes them, and what they take as a whole.
 
-ghost use Rattle.std.specs.Prelude.{◌≡◌, ◌<◌, ◌^◌, length};
-ghost use Rattle.circuit_walk.specs.Made.{PartsFit, kept_program};
+ghost use Rattle.std.specs.Prelude.{◌≡◌, ◌+◌, ◌<◌, ◌^◌, Some, length, slice_get};
+ghost use Rattle.circuit_walk.specs.Made.{IsAcceptedAs, PartsFit, kept_program};
 ghost use Rattle.circuit_walk.specs.private.Held.{Holds};
 ghost use Rattle.step_model.specs.Chances.{chance_at};
 ghost use Rattle.step_model.specs.WellFormed.{IsWellFormed};
+ghost use Rattle.stim_lexer.specs.Kept.{item_in};
+ghost use Rattle.stim_lexer.specs.Trees.{items_of};
 
 use crate::step::Counts;
 use std::alloc::Allocator;
 use std::marker::Model;
 use step_model::ChanceText;
 use stim_lexer::Items;
-use stim_parser::{Numbered, Operation, TargetWord};
+use stim_parser::{Item, Numbered, Operation, TargetWord};
 
 /// What a circuit takes as a whole: how many qubits it has, how many records, collapses, faults and steps its instructions make
 /// as they are reached, and how many detectors and observables.
@@ -45,8 +47,12 @@ pub struct Program<'a, A: Allocator + Copy> {
 
 impl<'a, A: Allocator + Copy> Model for Program<'a, A> {
     ghost use Rattle.circuit_walk.specs.Programs.{KeptProgram};
+    ghost use Rattle.std.specs.Coded.{codes};
+    ghost use Rattle.circuit_walk.specs.Programs.{coded_circuit};
 
     ghost Value = { KeptProgram };
+
+    ghost coded = { Prim.hlevel (codes, coded_circuit) };
 
     ghost use Rattle.circuit_walk.specs.Made.{PartsFit, kept_program};
 
@@ -111,6 +117,31 @@ impl<'p, A: Allocator + Copy> Program<'p, A> {
         let _parts = &self.parts;
     }
 
+    /// Does nothing: the circuit is one that isn't refused, and its program is listed.
+    pub fn accepted(&self)
+        ensures { IsAcceptedAs self.now.circuit self.now.listing }
+    {
+        // The proof looks inside.
+        let _parts = &self.parts;
+    }
+
+    /// How many items the circuit has: instructions, and starts and ends of blocks.
+    #[inline(always)]
+    pub fn len(&self) -> usize
+        ensures { result ≡ length (items_of self.now.circuit) }
+    {
+        self.parts.read.items.len()
+    }
+
+    /// The item at a place of the circuit.
+    #[inline(always)]
+    pub fn item(&self, i: usize) -> Item<'_, 'p>
+        requires { i < length (items_of self.now.circuit) }
+        ensures { Some (item_in result) ≡ slice_get (items_of self.now.circuit) i }
+    {
+        self.parts.read.items.get(i)
+    }
+
     pub fn qubits(&self) -> u32
         ensures { result ≡ self.now.listing.qubits }
     {
@@ -145,6 +176,14 @@ impl<'p, A: Allocator + Copy> Program<'p, A> {
         ensures { result ≡ length self.now.listing.observables }
     {
         self.parts.totals.observables as usize
+    }
+
+    /// How many detectors and observables there are.
+    pub fn target_count(&self) -> usize
+        ensures { result ≡ length self.now.listing.detectors + length self.now.listing.observables }
+    {
+        self.well_formed();
+        self.detector_count() + self.observable_count()
     }
 
     /// The text of the probability with this number, byte for byte as the circuit has it.

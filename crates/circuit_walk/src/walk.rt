@@ -19,14 +19,18 @@ use std::marker::Model;
 #[derive(Drop)]
 pub struct Walk<'a, 'p, A: Allocator + Copy> {
     program: &'a Program<'p, A>,
-    course: Course<'a, 'p, A>,
+    pub(crate) course: Course<'a, 'p, A>,
 }
 
 impl<'a, 'p, A: Allocator + Copy> Model for Walk<'a, 'p, A> {
     ghost use Rattle.circuit_walk.specs.Programs.{Walked};
     ghost use Rattle.circuit_walk.specs.private.Courses.{IsCourse};
+    ghost use Rattle.std.specs.Coded.{codes};
+    ghost use Rattle.circuit_walk.specs.Programs.{coded_circuit};
 
     ghost Value = { Walked };
+
+    ghost coded = { Prim.hlevel (codes, coded_circuit) };
 
     ghost view = { λ w. record { program = w.program.now; place = w.course.steps } };
 

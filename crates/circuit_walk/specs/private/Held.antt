@@ -17,6 +17,7 @@ use Rattle.circuit_walk.specs.Refusals.{circuit_refusal}
 
 -- these items with these texts and totals are a program's
 pub record Held (program : KeptProgram) (read : Marked Instruction) (chances : List ChanceText) (totals : Totals) : Type 0 where
+  pub circuit : program.circuit ≡ tree_of read.items
   pub listing : program.listing ≡ listing_of (tree_of read.items)
   pub chances_are : program.chances ≡ chances
   pub written : IsWritten Fits read.items

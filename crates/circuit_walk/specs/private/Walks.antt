@@ -2,6 +2,7 @@
 -- (This project's own.)
 use Rattle.std.specs.Prelude.{◌≡◌, ◌+◌, ℕ, Bool, true, false, List, [], ◌∷◌, length, take}
 use Rattle.cursor.specs.declared.cursor.Cursor.{Cursor}
+use Rattle.cursor.specs.Moves.{Faces}
 use Rattle.cursor.specs.Places.{before_of, left_of}
 use Rattle.step_model.specs.declared.chances.ChanceText.{ChanceText}
 use Rattle.step_model.specs.Listing.{ListedStep}
@@ -57,6 +58,7 @@ pub record IsInside (n : ℕ) (chances : List ChanceText) (items : List (Item In
   pub rest : List Instruction
   pub k : ℕ
   pub left : left_of is_step_maker items cursor ≡ instruction ∷ rest
+  pub faced : Faces is_step_maker items cursor.index
   pub stands : Stands instruction (state_at n items cursor) s c k
   pub marked : Marks chances (chance_taken circuit_table instruction.operation instruction.arguments) s.chance
   pub place_is : place ≡ length (steps_of n (before_of is_step_maker items cursor)) + k

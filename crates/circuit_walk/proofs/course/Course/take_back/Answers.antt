@@ -54,6 +54,7 @@ returns-clause-course g c program course =
       rest = h.rest;
       k = back.k;
       left = h.left;
+      faced = h.faced;
       stands = stands_back program old back c.place_before-at.result c.counts_before-self.result (c.place_before-at.ensures.place back.k h.instruction) counts;
       marked = h.marked;
       place_is = omega (arith, h.place_is, back.number);
