@@ -1,0 +1,23 @@
+mod ManyTurns
+pub mod AcceptedLemmas
+pub mod CountLemmas
+pub mod CountLoops
+pub mod DetectorLemmas
+pub mod EachReached
+pub mod GatherLemmas
+pub mod IncludingLemmas
+pub mod IncludingLoops
+pub mod ListedLemmas
+pub mod NoteLemmas
+pub mod ObservableLemmas
+pub mod OffsetLemmas
+pub mod PassLemmas
+pub mod PlacingLemmas
+pub mod PlacingLoops
+pub mod ProductLemmas
+pub mod ReachedCounts
+pub mod RecordLemmas
+pub mod SizeLemmas
+pub mod StatedLemmas
+pub mod TimesLemmas
+pub mod TurnLemmas
