@@ -12,7 +12,7 @@ use Rattle.step_model.specs.Listing.{Listing, ListedStep, One, Two, Collapse, Fa
 use Rattle.step_model.specs.Sensitivities.{Sensitivity, record_counts}
 use Rattle.step_model.specs.Targets.{targets_of}
 use Rattle.step_model.specs.WellFormed.{step_faults}
-use Rattle.programs.specs.Turns.{moved_recorded, moved_step}
+use Rattle.circuit_walk.specs.Turns.{moved_recorded, moved_step}
 use Rattle.std.proofs.lemmas.List.Elements.{All-cons, All-head, All-nil, All-tail}
 use Rattle.backward.specs.declared.moved.Shift.{Shift}
 use Rattle.backward.specs.private.MovedTargets.{IsShiftOf, is_within, later_target, moved_list, window_end}

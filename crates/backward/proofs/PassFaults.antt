@@ -4,10 +4,12 @@ use Rattle.std.specs.Prelude.{IfSome, slice_get}
 use Rattle.std.proofs.lemmas.List.{drop_more}
 use Rattle.std.proofs.lemmas.Option.{slice_get_within, get_or_from_slice_get}
 use Rattle.step_model.specs.Listing.{Listing, ListedStep, Fault}
-use Rattle.programs.specs.Kept.{KeptProgram}
-use Rattle.programs.specs.Named.{IsNamed}
-use Rattle.programs.specs.declared.step.FaultName.{FaultName}
-use Rattle.programs.specs.Walks.{PassesBack, is_fault}
+use Rattle.circuit_walk.specs.Programs.{KeptProgram}
+use Rattle.circuit_walk.specs.Named.{IsStepOf}
+use Rattle.circuit_walk.specs.declared.letters.Letters.{Letters}
+use Rattle.circuit_walk.specs.declared.step.FaultName.{FaultName}
+use Rattle.circuit_walk.specs.declared.step.Step.TheVariants as step
+use Rattle.circuit_walk.specs.Walks.{PassesBack, is_fault}
 use Rattle.trackers.specs.Tracked.{Tracked}
 use Rattle.backward.specs.declared.found.Found.{Found}
 use Rattle.backward.specs.private.Passes.{IsPassed, IsStepAt}
@@ -24,29 +26,30 @@ fault_at program place f there =
     ∙ ap (λ s. s ∷ drop (place + 1) steps) (get_or_from_slice_get steps place (Fault f) (Fault f) there)
 
 -- ---- a fault that a walk has gone back over, and that is to be gone over
-abbrev pub pending : Option FaultName → ℕ
+abbrev pub pending : Option (FaultName × Letters) → ℕ
 pending None = 0
-pending (Some name) = 1
+pending (Some fault) = 1
 
-abbrev pub IsPending : KeptProgram → ℕ → Option FaultName → Type 0
-IsPending program place left = IfSome left (λ name. IsStepAt program.listing place (Fault name.number) × IsNamed program name)
+abbrev pub IsPending : KeptProgram → ℕ → Option (FaultName × Letters) → Type 0
+IsPending program place left =
+    IfSome left (λ fault. IsStepAt program.listing place (Fault fault.0.number) × IsStepOf program (step.Fault fault.0 fault.1))
 
-pub one_at_most : (left : Option FaultName) → pending left ≤ 1
+pub one_at_most : (left : Option (FaultName × Letters)) → pending left ≤ 1
 one_at_most None = omega arith
-one_at_most (Some name) = omega arith
+one_at_most (Some fault) = omega arith
 
-pub went_back : (left : Option FaultName) (old new : ℕ) → IfSome left (λ name. new + 1 ≡ old) → (left ≡ None → new ≡ old) → new + pending left ≡ old
+pub went_back : (left : Option (FaultName × Letters)) (old new : ℕ) → IfSome left (λ fault. new + 1 ≡ old) → (left ≡ None → new ≡ old) → new + pending left ≡ old
 went_back None old new some none = omega (arith, none refl)
-went_back (Some name) old new some none = some
+went_back (Some fault) old new some none = some
 
-pub is_pending : (walked program : KeptProgram) (left : Option FaultName) (old new : ℕ) → walked ≡ program → IfSome left (λ name. slice_get walked.listing.steps (old - 1) ≡ Some (Fault name.number)) → IfSome left (IsNamed walked) → IfSome left (λ name. new + 1 ≡ old)
+pub is_pending : (walked program : KeptProgram) (left : Option (FaultName × Letters)) (old new : ℕ) → walked ≡ program → IfSome left (λ fault. slice_get walked.listing.steps (old - 1) ≡ Some (Fault fault.0.number)) → IfSome left (λ fault. IsStepOf walked (step.Fault fault.0 fault.1)) → IfSome left (λ fault. new + 1 ≡ old)
     → IsPending program new left
 is_pending walked program None old new same there named back = tt
-is_pending walked program (Some name) old new same there named back = (
-  fault_at program.listing new name.number
-      (subst (λ k. slice_get program.listing.steps k ≡ Some (Fault name.number)) (omega (arith, back))
-      (subst (λ (p : KeptProgram). slice_get p.listing.steps (old - 1) ≡ Some (Fault name.number)) same there)),
-  subst (λ (p : KeptProgram). IsNamed p name) same named,
+is_pending walked program (Some fault) old new same there named back = (
+  fault_at program.listing new fault.0.number
+      (subst (λ k. slice_get program.listing.steps k ≡ Some (Fault fault.0.number)) (omega (arith, back))
+      (subst (λ (p : KeptProgram). slice_get p.listing.steps (old - 1) ≡ Some (Fault fault.0.number)) same there)),
+  subst (λ (p : KeptProgram). IsStepOf p (step.Fault fault.0 fault.1)) same named,
 )
 
 module _ {A : Type 0} (program : KeptProgram) (t : Tracked) (found : Found A) where

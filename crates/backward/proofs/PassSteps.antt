@@ -11,16 +11,18 @@ use Rattle.pauli_word.specs.Words.{anticommute, lone_letter, no_letters}
 use Rattle.pauli_word.proofs.WordLaws.{anticommute_of_none}
 use Rattle.step_model.specs.declared.step.Term.{Term}
 use Rattle.step_model.specs.ErrorModels.{ErrorLine}
-use Rattle.step_model.specs.Listing.{Listing, ListedStep, One, Two, Collapse, Fault, Feedback, Measured, Recorded, word_of_terms, is_collapse}
+use Rattle.step_model.specs.Listing.{Listing, ListedStep, One, Two, Collapse, Fault, Feedback, Applies, Measured, Word, Recorded, effect_at, effect_word, word_of_terms, is_collapse}
 use Rattle.step_model.specs.Sensitivities.{collapse_word, latest_place, later_or_here}
 use Rattle.step_model.specs.Targets.{targets_of, target_at}
-use Rattle.step_model.specs.WellFormed.{IsWellFormed, step_faults, step_fits, collapse_count}
-use Rattle.programs.specs.Kept.{KeptProgram, IsWellKept, kept_at}
-use Rattle.programs.specs.declared.step.FaultName.{FaultName}
-use Rattle.programs.specs.declared.step.Step.{Step}
-use Rattle.programs.specs.Listed.{listed, measured, recorded}
-use Rattle.programs.specs.Named.{IsNamed, IsNamedFlip, IsRecord}
-use Rattle.programs.proofs.NamedFaults.{named_fault}
+use Rattle.step_model.specs.WellFormed.{IsWellFormed, TermsFit, step_faults, step_fits, collapse_count}
+use Rattle.circuit_walk.specs.Programs.{KeptProgram}
+use Rattle.step_model.specs.Chances.{chance_at}
+use Rattle.circuit_walk.specs.declared.step.FaultName.{FaultName}
+use Rattle.circuit_walk.specs.declared.step.Step.{Step}
+use Rattle.circuit_walk.specs.declared.letters.Letters.{Letters}
+use Rattle.circuit_walk.specs.Letters.{letters_in}
+use Rattle.circuit_walk.specs.Steps.{listed, measured, recorded}
+use Rattle.circuit_walk.specs.Named.{IsNamed, IsNamedFlip, IsRecord}
 use Rattle.backward.specs.declared.found.Found.{Found}
 use Rattle.backward.specs.private.Collapses.{undone_collapse, members_at, noted}
 use Rattle.record_targets.specs.ListingSets.{toggled_each, sensitivity_before}
@@ -46,13 +48,13 @@ stepped steps place step e =
     ]
 
 pub walk_at : (walked program : KeptProgram) (place before : ℕ) (result : Option Step) (step : Step) → walked ≡ program → result ≡ Some step → before ≡ place - 1
-    → option_map (listed walked.listing.qubits walked.products) result ≡ (if place == 0 then None else slice_get walked.listing.steps (place - 1))
-    → IsStepAt program.listing before (listed program.listing.qubits program.products step)
+    → option_map (listed walked.listing.qubits) result ≡ (if place == 0 then None else slice_get walked.listing.steps (place - 1))
+    → IsStepAt program.listing before (listed program.listing.qubits step)
 walk_at walked program place before result step same is at e =
-    subst (λ k. IsStepAt program.listing k (listed program.listing.qubits program.products step)) (sym at)
-    (stepped program.listing.steps place (listed program.listing.qubits program.products step)
-    (ap (option_map (listed program.listing.qubits program.products)) (sym is)
-    ∙ subst (λ (w : KeptProgram). option_map (listed w.listing.qubits w.products) result ≡ (if place == 0 then None else slice_get w.listing.steps (place - 1))) same e))
+    subst (λ k. IsStepAt program.listing k (listed program.listing.qubits step)) (sym at)
+    (stepped program.listing.steps place (listed program.listing.qubits step)
+    (ap (option_map (listed program.listing.qubits)) (sym is)
+    ∙ subst (λ (w : KeptProgram). option_map (listed w.listing.qubits) result ≡ (if place == 0 then None else slice_get w.listing.steps (place - 1))) same e))
 
 at_start : (steps : List ListedStep) (place : ℕ) → place ≤ length steps → None ≡ (if place == 0 then None else slice_get steps (place - 1)) → place ≡ 0
 at_start steps place within e =
@@ -65,11 +67,11 @@ at_start steps place within e =
     ]
 
 pub walk_end : (walked program : KeptProgram) (place : ℕ) (result : Option Step) → walked ≡ program → result ≡ None → place ≤ length program.listing.steps
-    → option_map (listed walked.listing.qubits walked.products) result ≡ (if place == 0 then None else slice_get walked.listing.steps (place - 1)) → place ≡ 0
+    → option_map (listed walked.listing.qubits) result ≡ (if place == 0 then None else slice_get walked.listing.steps (place - 1)) → place ≡ 0
 walk_end walked program place result same is within e =
     at_start program.listing.steps place within
-    (ap (option_map (listed program.listing.qubits program.products)) (sym is)
-    ∙ subst (λ (w : KeptProgram). option_map (listed w.listing.qubits w.products) result ≡ (if place == 0 then None else slice_get w.listing.steps (place - 1))) same e)
+    (ap (option_map (listed program.listing.qubits)) (sym is)
+    ∙ subst (λ (w : KeptProgram). option_map (listed w.listing.qubits) result ≡ (if place == 0 then None else slice_get w.listing.steps (place - 1))) same e)
 
 -- ---- what is measured
 pub measured-letter : (n : ℕ) (letter : Letter) (q : ℕ) (reset : Bool) → IsMeasured n (record { qubit = q; letter = letter } ∷ []) (if reset then Some q else None) (measured n reset letter q)
@@ -85,7 +87,7 @@ one_within n term h zero d lt = h
 one_within n term h (suc k) d lt = absurd (omega (arith, lt))
 
 pub letter_at_place : (program : KeptProgram) (place : ℕ) (letter : Letter) (q : ℕ) (reset inverted : Bool) (rec : Option ℕ) (flip : Option FaultName) (o : Option ℕ)
-    → IsStepAt program.listing place (Collapse (measured program.listing.qubits reset letter q) (recorded rec inverted flip)) → o ≡ (if reset then Some q else None) → q < program.listing.qubits → IsRecord program rec → IsNamedFlip program flip
+    → IsStepAt program.listing place (Collapse (measured program.listing.qubits reset letter q) (recorded rec inverted flip)) → o ≡ (if reset then Some q else None) → q < program.listing.qubits → IsRecord program rec → IsNamedFlip program rec flip
     → IsCollapseAt program place (record { qubit = q; letter = letter } ∷ []) o rec flip
 letter_at_place program place letter q reset inverted rec flip o at is within named_record named_flip =
     record {
@@ -98,6 +100,28 @@ letter_at_place program place letter q reset inverted rec flip o at is within na
       is_record = named_record;
       is_named = named_flip;
     }
+
+-- a product that a step lends
+pub word_at_place : (program : KeptProgram) (place : ℕ) (letters : Letters) (inverted : Bool) (rec : Option ℕ) (flip : Option FaultName)
+    → IsStepAt program.listing place (Collapse (Word (word_of_terms program.listing.qubits (letters_in letters))) (recorded rec inverted flip)) → TermsFit program.listing.qubits (letters_in letters) → IsRecord program rec → IsNamedFlip program rec flip
+    → IsCollapseAt program place (letters_in letters) None rec flip
+word_at_place program place letters inverted rec flip at fit named_record named_flip =
+    record {
+      measured = Word (word_of_terms program.listing.qubits (letters_in letters));
+      inverted = inverted;
+      step = at;
+      is_measured = record { word_is = refl; clears = λ v. refl };
+      terms_fit = fit;
+      reset_fits = tt;
+      is_record = named_record;
+      is_named = named_flip;
+    }
+
+-- the fault that flips a record has a probability of the program's
+pub flip_named : (program : KeptProgram) (rec : Option ℕ) (flip : Option FaultName) → IsNamedFlip program rec flip → IfSome flip (λ name. name.chance < length program.chances)
+flip_named program rec None h = tt
+flip_named program None (Some name) h = absurd h
+flip_named program (Some r) (Some name) h = h.named.chance
 
 -- ---- sizes
 pub words_of_size : (program : Listing) (steps : List ListedStep) (t : Tracked) → t ≡ tracked_before program steps → length t.words ≡ length (targets_of program)
@@ -239,25 +263,25 @@ pub no_line : (program : Listing) (place : ℕ) (step : ListedStep) → IsStepAt
 no_line program place step at none =
     ap (first_lines program) at ∙ ap (flat_map (line_at program step (drop (place + 1) program.steps))) none
 
-pub fault_line : (program : KeptProgram) (place : ℕ) (name : FaultName) (t : Tracked) → IsWellKept program → IsStepAt program.listing place (Fault name.number) → IsNamed program name → t ≡ tracked_before program.listing (drop (place + 1) program.listing.steps)
-    → line_for (kept_at program name.entry).text (anticommuting (kept_at program name.entry).terms t) ≡ lines_at program.listing place
-fault_line program place name t kept at named words =
+pub fault_line : (program : KeptProgram) (place : ℕ) (name : FaultName) (terms : List Term) (t : Tracked) → IsStepAt program.listing place (Fault name.number) → IsNamed program name → effect_at program.listing name.number ≡ Applies terms → t ≡ tracked_before program.listing (drop (place + 1) program.listing.steps)
+    → line_for (chance_at program.chances name.chance).text (anticommuting terms t) ≡ lines_at program.listing place
+fault_line program place name terms t at named effect words =
     let steps : List ListedStep = drop (place + 1) program.listing.steps in
     ap₂ (λ text hit. line_for text hit) (sym named.text)
-    (ap (anticommuting (kept_at program name.entry).terms) words ∙ hit_at-fault program.listing name.number (kept_at program name.entry).terms steps (sym (named_fault program name kept named).word))
+    (ap (anticommuting terms) words ∙ hit_at-fault program.listing name.number terms steps (sym (ap (effect_word program.listing.qubits) effect)))
     ∙ (sym (append-nil (line_at program.listing (Fault name.number) steps name.number)) ∙ ap (first_lines program.listing) (sym at))
 
 no_targets : (program : KeptProgram) (flip : Option FaultName) → flip_line program flip [] ≡ []
 no_targets program None = refl
 no_targets program (Some name) = refl
 
-flip_line_is : (program : KeptProgram) (c : Measured) (rec : Option ℕ) (inverted : Bool) (flip : Option FaultName) (steps : List ListedStep) → IsNamedFlip program flip
+flip_line_is : (program : KeptProgram) (c : Measured) (rec : Option ℕ) (inverted : Bool) (flip : Option FaultName) (steps : List ListedStep) → IsNamedFlip program rec flip
     → flip_line program flip (listing_at program.listing steps rec) ≡ first_lines program.listing (Collapse c (recorded rec inverted flip) ∷ steps)
 flip_line_is program c None inverted flip steps named = no_targets program flip
 flip_line_is program c (Some r) inverted None steps named = refl
 flip_line_is program c (Some r) inverted (Some name) steps named =
     let record_is : Recorded = record { number = r; inverted = inverted; flip = Some name.number } in
-    ap₂ (λ text hit. line_for text hit) (sym named.text) (hit_at-collapse program.listing c record_is steps name.number refl)
+    ap₂ (λ text hit. line_for text hit) (sym named.named.text) (hit_at-collapse program.listing c record_is steps name.number refl)
     ∙ sym (append-nil (line_at program.listing (Collapse c (Some record_is)) steps name.number))
 
 -- ---- a collapse

@@ -2,8 +2,8 @@
 use Rattle.std.proofs.Common.{◌≡◌, ℕ, ◌<◌, Bool, List, [], length, get_or, Option, None, Some, subst, arith}
 use Rattle.std.specs.Prelude.{All, IfSome}
 use Rattle.std.specs.List.Sorted.{IsStrictlyIncreasing}
-use Rattle.programs.specs.Kept.{KeptProgram}
-use Rattle.programs.specs.Named.{IsRecord}
+use Rattle.circuit_walk.specs.Programs.{KeptProgram}
+use Rattle.circuit_walk.specs.Named.{IsRecord}
 use Rattle.step_model.specs.TargetSets.{members}
 use Rattle.step_model.proofs.MemberLemmas.{members_ascend, members_within}
 use Rattle.backward.specs.private.Collapses.{members_at}

@@ -1,6 +1,6 @@
 -- Parts of a way back, one behind the other, and the text of their steps.
 use Rattle.std.proofs.Common.{◌≡◌, ℕ, ◌<◌, ◌≤◌, false, true, List, [], ◌∷◌, ◌++◌, Option, None, Some, is_some, refl, subst, sym, arith}
-use Rattle.programs.specs.Kept.{KeptProgram}
+use Rattle.circuit_walk.specs.Programs.{KeptProgram}
 use Rattle.step_model.specs.Held.{Held}
 use Rattle.step_model.specs.Pushed.{Pushes}
 use Rattle.backward.specs.declared.point.KeptPoint.{KeptPoint}

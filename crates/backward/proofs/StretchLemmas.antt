@@ -5,7 +5,7 @@ use Rattle.std.specs.List.{flat_map}
 use Rattle.std.proofs.lemmas.List.FromFn.{length-map-range_with_len}
 use Rattle.step_model.specs.Listing.{Listing, ListedStep}
 use Rattle.step_model.specs.Targets.{targets_of}
-use Rattle.programs.specs.Kept.{KeptProgram}
+use Rattle.circuit_walk.specs.Programs.{KeptProgram}
 use Rattle.step_model.specs.HitModels.{model_of}
 use Rattle.step_model.specs.WellFormed.{IsWellFormed}
 use Rattle.error_models.specs.ModelText.{detectors_text, line_text, lines_text, model_text, observables_text}

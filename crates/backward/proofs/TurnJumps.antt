@@ -5,9 +5,9 @@ use Rattle.step_model.specs.Targets.{targets_of}
 use Rattle.step_model.specs.WellFormed.{IsWellFormed, collapse_count, faults_named, records_made, step_faults}
 use Rattle.step_model.specs.Listing.{Applies, Effect, Fault, Flips, ListedFault, Listing, effect_word, fault_at}
 use Rattle.std.proofs.lemmas.Option.{slice_get-get_or}
-use Rattle.programs.specs.Kept.{KeptProgram}
-use Rattle.programs.specs.Turns.{AreFedFrom, Repeat, RepeatFaults, moved_effect, moved_fault}
-use Rattle.programs.specs.Walks.{Walked}
+use Rattle.circuit_walk.specs.Programs.{KeptProgram}
+use Rattle.circuit_walk.specs.Turns.{AreFedFrom, Repeat, RepeatFaults, moved_effect, moved_fault}
+use Rattle.circuit_walk.specs.Programs.{Walked}
 use Rattle.trackers.specs.Tracked.{Fit, Tracked, restored}
 use Rattle.backward.specs.declared.found.Found.{Found}
 use Rattle.backward.specs.declared.turns.Period.{Period}

@@ -16,7 +16,7 @@ use Rattle.step_model.specs.Listing.{Listing, ListedStep, One, Two, Collapse, Fa
 use Rattle.step_model.specs.Sensitivities.{Sensitivity, sensitivity, sensitivity_before, cleared, collapse_word, latest_place, later_or_here, multiplied, record_counts}
 use Rattle.step_model.specs.Targets.{is_listed, target_at, targets_of}
 use Rattle.step_model.specs.WellFormed.{IsWellFormed}
-use Rattle.programs.specs.Turns.{Repeat, moved_recorded, moved_step}
+use Rattle.circuit_walk.specs.Turns.{Repeat, moved_recorded, moved_step}
 use Rattle.backward.specs.private.Passes.{IsStepAt, records_before}
 use Rattle.backward.specs.private.Repeats.{NonePlaced}
 use Rattle.backward.proofs.PassRecords.{record_there, records_before-earlier, records_before-more}

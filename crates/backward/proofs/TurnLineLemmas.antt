@@ -6,7 +6,8 @@ use Rattle.std.proofs.lemmas.Grind.{flat_map-append}
 use Rattle.std.proofs.lemmas.List.{append-nil, reverse-append, reverse-reverse, take_more}
 use Rattle.error_models.specs.HeldText.{Held, HoldsLines}
 use Rattle.error_models.specs.ModelText.{line_text}
-use Rattle.programs.specs.Kept.{KeptProgram, kept_at}
+use Rattle.circuit_walk.specs.Programs.{KeptProgram}
+use Rattle.step_model.specs.Chances.{chance_at}
 use Rattle.step_model.specs.ErrorModels.{ErrorLine}
 use Rattle.step_model.specs.Targets.{targets_of}
 use Rattle.std.proofs.lemmas.List.Elements.{All-append, All-cons, All-head, All-nil, All-tail}
@@ -19,28 +20,28 @@ use Rattle.backward.proofs.MovedLemmas.{below-moved_list}
 use Rattle.backward.proofs.PassLines.{reverse_line}
 
 -- ---- lines that are kept
-kept_lines-append : (program : KeptProgram) (entries more : List ℕ) (lists rest : List (List ℕ)) → length entries ≡ length lists
-    → kept_lines program (entries ++ more) (lists ++ rest) ≡ kept_lines program entries lists ++ kept_lines program more rest
+kept_lines-append : (program : KeptProgram) (chances more : List ℕ) (lists rest : List (List ℕ)) → length chances ≡ length lists
+    → kept_lines program (chances ++ more) (lists ++ rest) ≡ kept_lines program chances lists ++ kept_lines program more rest
 kept_lines-append program [] more [] rest e = refl
 kept_lines-append program [] more (targets ∷ lists) rest e = absurd (omega (arith, e))
-kept_lines-append program (entry ∷ entries) more [] rest e = absurd (omega (arith, e))
-kept_lines-append program (entry ∷ entries) more (targets ∷ lists) rest e =
-    ap (λ (l : List ErrorLine). record { text = (kept_at program entry).text; targets = targets } ∷ l) (kept_lines-append program entries more lists rest (omega (arith, e)))
+kept_lines-append program (chance ∷ chances) more [] rest e = absurd (omega (arith, e))
+kept_lines-append program (chance ∷ chances) more (targets ∷ lists) rest e =
+    ap (λ (l : List ErrorLine). record { text = (chance_at program.chances chance).text; targets = targets } ∷ l) (kept_lines-append program chances more lists rest (omega (arith, e)))
 
 -- one more behind the others
-pub keeps_more : {T E : Type 0} (kept : KeptLines) (program : KeptProgram) (entries new_entries : List ℕ) (lists new_lists : List (List ℕ)) (entry : ℕ) (targets : List ℕ) (r : Result T E)
-    → record { program = program; lines = kept_lines program entries lists } ≡ kept → length entries ≡ length lists → OnOk r (new_entries ≡ entries ++ entry ∷ []) → OnOk r (new_lists ≡ lists ++ targets ∷ [])
-    → OnOk r (Gives (λ lines. kept.lines ≡ lines) (λ lines. kept_lines program new_entries new_lists ≡ lines) (record { text = (kept_at kept.program entry).text; targets = targets } ∷ []))
-keeps_more kept program entries new_entries lists new_lists entry targets (Ok x) view counted entered named = λ lines h.
-    ap₂ (kept_lines program) entered named
-    ∙ (kept_lines-append program entries (entry ∷ []) lists (targets ∷ []) counted
-    ∙ ap₂ (λ (l : List ErrorLine) (p : KeptProgram). l ++ record { text = (kept_at p entry).text; targets = targets } ∷ []) (ap (λ (k : KeptLines). k.lines) view ∙ h) (ap (λ (k : KeptLines). k.program) view))
-keeps_more kept program entries new_entries lists new_lists entry targets (Err e) view counted entered named = tt
+pub keeps_more : {T E : Type 0} (kept : KeptLines) (program : KeptProgram) (chances new_chances : List ℕ) (lists new_lists : List (List ℕ)) (chance : ℕ) (targets : List ℕ) (r : Result T E)
+    → record { program = program; lines = kept_lines program chances lists } ≡ kept → length chances ≡ length lists → OnOk r (new_chances ≡ chances ++ chance ∷ []) → OnOk r (new_lists ≡ lists ++ targets ∷ [])
+    → OnOk r (Gives (λ lines. kept.lines ≡ lines) (λ lines. kept_lines program new_chances new_lists ≡ lines) (record { text = (chance_at kept.program.chances chance).text; targets = targets } ∷ []))
+keeps_more kept program chances new_chances lists new_lists chance targets (Ok x) view counted more named = λ lines h.
+    ap₂ (kept_lines program) more named
+    ∙ (kept_lines-append program chances (chance ∷ []) lists (targets ∷ []) counted
+    ∙ ap₂ (λ (l : List ErrorLine) (p : KeptProgram). l ++ record { text = (chance_at p.chances chance).text; targets = targets } ∷ []) (ap (λ (k : KeptLines). k.lines) view ∙ h) (ap (λ (k : KeptLines). k.program) view))
+keeps_more kept program chances new_chances lists new_lists chance targets (Err e) view counted more named = tt
 
 -- the targets of a line, moved, are the program's
-pub named_moved : (program : KeptProgram) (entries : List ℕ) (lists : List (List ℕ)) (detectors by i : ℕ) (moved : List ℕ) → AreKeptLines program entries lists → i < length entries → moved ≡ moved_list detectors by (get_or lists i [])
+pub named_moved : (program : KeptProgram) (chances : List ℕ) (lists : List (List ℕ)) (detectors by i : ℕ) (moved : List ℕ) → AreKeptLines program chances lists → i < length chances → moved ≡ moved_list detectors by (get_or lists i [])
     → All (λ t. t < length (targets_of program.listing)) moved
-named_moved program entries lists detectors by i moved fits within e =
+named_moved program chances lists detectors by i moved fits within e =
     let P : List ℕ → Type 0 = All (λ t. t < length (targets_of program.listing)) in
     subst P (sym e) (below-moved_list detectors (length (targets_of program.listing)) by (get_or lists i []) (fits.named i [] (omega (arith, fits.counted, within))))
 
@@ -57,15 +58,15 @@ moved_error_lines-append detectors by (line ∷ lines) more =
     ap (λ (l : List ErrorLine). first ++ l) (moved_error_lines-append detectors by lines more) ∙ sym (append_assoc first (moved_error_lines detectors by lines) (moved_error_lines detectors by more))
 
 -- one line more
-pub moved_more_lines : (program : KeptProgram) (entries : List ℕ) (lists : List (List ℕ)) (detectors by i : ℕ) → AreKeptLines program entries lists → i < length entries
-    → moved_error_lines detectors by (kept_lines program (take (i + 1) entries) (take (i + 1) lists))
-    ≡ moved_error_lines detectors by (kept_lines program (take i entries) (take i lists)) ++ line_for (kept_at program (get_or entries i 0)).text (moved_list detectors by (get_or lists i []))
-moved_more_lines program entries lists detectors by i fits within =
+pub moved_more_lines : (program : KeptProgram) (chances : List ℕ) (lists : List (List ℕ)) (detectors by i : ℕ) → AreKeptLines program chances lists → i < length chances
+    → moved_error_lines detectors by (kept_lines program (take (i + 1) chances) (take (i + 1) lists))
+    ≡ moved_error_lines detectors by (kept_lines program (take i chances) (take i lists)) ++ line_for (chance_at program.chances (get_or chances i 0)).text (moved_list detectors by (get_or lists i []))
+moved_more_lines program chances lists detectors by i fits within =
     let long : i < length lists = omega (arith, fits.counted, within) in
-    let as_long : length (take i entries) ≡ length (take i lists) = omega (arith, length-take i entries, length-take i lists, fits.counted) in
-    let line : ErrorLine = record { text = (kept_at program (get_or entries i 0)).text; targets = get_or lists i [] } in
-    let before : List ErrorLine = kept_lines program (take i entries) (take i lists) in
-    ap (moved_error_lines detectors by) (ap₂ (kept_lines program) (take_more entries i 0 within) (take_more lists i [] long) ∙ kept_lines-append program (take i entries) (get_or entries i 0 ∷ []) (take i lists) (get_or lists i [] ∷ []) as_long)
+    let as_long : length (take i chances) ≡ length (take i lists) = omega (arith, length-take i chances, length-take i lists, fits.counted) in
+    let line : ErrorLine = record { text = (chance_at program.chances (get_or chances i 0)).text; targets = get_or lists i [] } in
+    let before : List ErrorLine = kept_lines program (take i chances) (take i lists) in
+    ap (moved_error_lines detectors by) (ap₂ (kept_lines program) (take_more chances i 0 within) (take_more lists i [] long) ∙ kept_lines-append program (take i chances) (get_or chances i 0 ∷ []) (take i lists) (get_or lists i [] ∷ []) as_long)
     ∙ (moved_error_lines-append detectors by before (line ∷ [])
     ∙ ap (λ (l : List ErrorLine). moved_error_lines detectors by before ++ l) (append-nil (line_for line.text (moved_list detectors by line.targets))))
 
@@ -74,11 +75,11 @@ pub gives_then : (first old new : List ErrorLine → Type 0) (early late : List 
 gives_then first old new early late before after = λ lines h. subst new (append_assoc lines early late) (after (lines ++ early) (before lines h))
 
 -- a line that was given, where it is left with targets, is that of the moved ones
-pub line_given : (before after : List ErrorLine → Type 0) (program kept : KeptProgram) (entry number : ℕ) (targets moved : List ℕ) → kept ≡ program → number ≡ entry → targets ≡ moved → (length targets == 0) ≡ false
-    → Gives before after (record { text = (kept_at kept number).text; targets = targets } ∷ []) → Gives before after (line_for (kept_at program entry).text moved)
-line_given before after program kept entry number targets moved p e t some gives =
+pub line_given : (before after : List ErrorLine → Type 0) (program kept : KeptProgram) (chance number : ℕ) (targets moved : List ℕ) → kept ≡ program → number ≡ chance → targets ≡ moved → (length targets == 0) ≡ false
+    → Gives before after (record { text = (chance_at kept.chances number).text; targets = targets } ∷ []) → Gives before after (line_for (chance_at program.chances chance).text moved)
+line_given before after program kept chance number targets moved p e t some gives =
     subst (Gives before after)
-    (line_for_some (kept_at kept number).text targets some ∙ (ap₂ (λ (p : KeptProgram) (e : ℕ). line_for (kept_at p e).text targets) p e ∙ ap (line_for (kept_at program entry).text) t))
+    (line_for_some (chance_at kept.chances number).text targets some ∙ (ap₂ (λ (p : KeptProgram) (e : ℕ). line_for (chance_at p.chances e).text targets) p e ∙ ap (line_for (chance_at program.chances chance).text) t))
     gives
 
 -- ---- lines of some turns
@@ -114,12 +115,12 @@ text_of_turns kept staying by low k old held given none counted =
     ∙ (sym (flat_map-append (line_text detectors) (reverse given.more) (turn_lines staying by low (reverse kept.lines))) ∙ ap (flat_map (line_text detectors)) given.turns)
 
 -- lines are clear where their targets are
-pub clear-kept : (s : Shift) (program : KeptProgram) (entries : List ℕ) (lists : List (List ℕ)) → All (IsClear s) lists → AreClear s (kept_lines program entries lists)
+pub clear-kept : (s : Shift) (program : KeptProgram) (chances : List ℕ) (lists : List (List ℕ)) → All (IsClear s) lists → AreClear s (kept_lines program chances lists)
 clear-kept s program [] lists clear = All-nil (λ (line : ErrorLine). IsClear s line.targets)
-clear-kept s program (entry ∷ entries) [] clear = All-nil (λ (line : ErrorLine). IsClear s line.targets)
-clear-kept s program (entry ∷ entries) (targets ∷ lists) clear =
-    All-cons (λ (line : ErrorLine). IsClear s line.targets) (record { text = (kept_at program entry).text; targets = targets }) (kept_lines program entries lists)
-    (All-head (IsClear s) targets lists clear) (clear-kept s program entries lists (All-tail (IsClear s) targets lists clear))
+clear-kept s program (chance ∷ chances) [] clear = All-nil (λ (line : ErrorLine). IsClear s line.targets)
+clear-kept s program (chance ∷ chances) (targets ∷ lists) clear =
+    All-cons (λ (line : ErrorLine). IsClear s line.targets) (record { text = (chance_at program.chances chance).text; targets = targets }) (kept_lines program chances lists)
+    (All-head (IsClear s) targets lists clear) (clear-kept s program chances lists (All-tail (IsClear s) targets lists clear))
 
 all_reversed : {X : Type 0} (P : X → Type 0) (xs : List X) → All P xs → All P (reverse xs)
 all_reversed P [] all = all

@@ -4,7 +4,7 @@ use Rattle.std.specs.Prelude.{if◌then◌else◌}
 use Rattle.std.proofs.lemmas.Bool.{ltb-true, ltb-false}
 use Rattle.step_model.specs.Listing.{Listing}
 use Rattle.step_model.specs.TargetSets.{members}
-use Rattle.programs.specs.Turns.{AreFedFrom}
+use Rattle.circuit_walk.specs.Turns.{AreFedFrom}
 use Rattle.record_targets.specs.ListingSets.{listing_set}
 use Rattle.backward.specs.private.MovedTargets.{earlier_list, list_then}
 use Rattle.backward.specs.declared.moved.Shift.{Shift}

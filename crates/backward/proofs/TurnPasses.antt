@@ -14,7 +14,7 @@ use Rattle.step_model.specs.Targets.{is_listed, target_at, targets_of}
 use Rattle.step_model.specs.TargetSets.{members}
 use Rattle.step_model.specs.WellFormed.{IsWellFormed, collapse_count, step_faults}
 use Rattle.step_model.proofs.MemberLemmas.{among_members, map_range_below, members_within}
-use Rattle.programs.specs.Turns.{Repeat, moved_step}
+use Rattle.circuit_walk.specs.Turns.{Repeat, moved_step}
 use Rattle.record_targets.specs.ListingSets.{listing_set, sensitivity_before}
 use Rattle.trackers.specs.Tracked.{Tracked, is_among, listed_word, restored}
 use Rattle.backward.specs.declared.moved.Shift.{Shift}

@@ -5,7 +5,7 @@ use Rattle.std.proofs.lemmas.Bool.{cases_lt}
 use Rattle.std.proofs.lemmas.Option.{slice_get-get_or}
 use Rattle.pauli_word.specs.declared.letter.Letter.{Letter}
 use Rattle.step_model.specs.Listing.{Listing, ListedStep, One, Two, Collapse, Fault, Feedback, step_records}
-use Rattle.programs.specs.Turns.{AreFedFrom, Repeat, moved_step}
+use Rattle.circuit_walk.specs.Turns.{AreFedFrom, Repeat, moved_step}
 use Rattle.record_targets.specs.ListingSets.{listing_set}
 use Rattle.backward.specs.private.Passes.{records_before}
 use Rattle.backward.proofs.PassRecords.{records_before-more}

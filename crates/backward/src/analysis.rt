@@ -12,11 +12,12 @@ use crate::line_store::ModelStore;
 use crate::pass::steps_back;
 use crate::places::random_target;
 use crate::point::Point;
+use circuit_walk::{Program, Walk};
 use error_models::Model;
 use flat_lists::FlatLists;
-use programs::{Program, Walk};
 use std::alloc::{AllocError, Allocator};
 use step_model::{Fault, Place};
+use target_lists::DetectorCoordinates;
 use trackers::Tracker;
 
 /// What an analysis answers.
@@ -129,9 +130,10 @@ fn coordinates_of<'a, A: Allocator + Copy>(
     ensures each { length program.now.listing.coordinates ≡ length program.now.listing.detectors }
 {
     program.well_formed();
+    let coordinates = DetectorCoordinates::of(alloc, program)?;
     let mut lists = FlatLists::new(alloc);
     for detector in 0..program.detector_count() {
-        lists.push(program.coordinates(detector).as_slice())?;
+        lists.push(coordinates.get(detector).as_slice())?;
     }
     Ok(lists)
 }

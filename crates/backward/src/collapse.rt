@@ -1,17 +1,20 @@
 //! Going back over a collapse, which is the projective measurement inside a measurement or a reset.
-ghost use Rattle.std.specs.Prelude.{◌≡◌, ◌<◌, ◌+◌, length, All, OnOk, IfSome};
+ghost use Rattle.std.specs.Prelude.{◌≡◌, ◌<◌, ◌+◌, None, length, All, OnOk, IfSome};
 ghost use Rattle.std.specs.List.Sorted.{IsStrictlyIncreasing};
+ghost use Rattle.circuit_walk.specs.Letters.{AreSmall, letters_in};
 ghost use Rattle.backward.specs.private.Collapses.{times_terms, reset_at, undone_collapse};
 ghost use Rattle.backward.specs.private.Passes.{FitsCollapse, IsCollapseAt, IsPassed};
 ghost use Rattle.backward.specs.private.Steps.{IsGoneOver, IsTakenBack};
 
 use crate::faults::note_flip;
 use crate::found::Found;
+use crate::letters::{FEW_LETTERS, NO_LETTER, terms_of};
 use crate::line_store::LineStore;
 use crate::point::Point;
-use programs::{FaultName, Program};
+use circuit_walk::{FaultName, Letters, Program};
 use record_targets::target_count;
 use std::alloc::{AllocError, Allocator};
+use std::mem;
 use step_model::Term;
 use trackers::Tracker;
 
@@ -49,6 +52,35 @@ pub(crate) fn collapse<'s, 'p, 'a, A: Allocator + Copy, T: Tracker, L: LineStore
         lines,
     )?;
     found.let_go(rec);
+    Ok(())
+}
+
+/// The same of a product that a step lends.
+#[inline(never)]
+pub(crate) fn collapse_word<'s, 'p, 'a, A: Allocator + Copy, T: Tracker, L: LineStore>(
+    program: &Program<'a, A>,
+    letters: Letters<'_>,
+    rec: Option<u32>,
+    flip: Option<FaultName>,
+    at: &mut Point<'p, 'a, A, T>,
+    found: &mut Found<'s, A>,
+    lines: &mut L,
+) -> Result<(), AllocError>
+    requires small { AreSmall letters }
+    requires step { IsCollapseAt program.now at.old.walk.place (letters_in letters) None rec flip }
+    requires store { L.program lines.old ≡ program.now }
+    requires passed { IsPassed program.now.listing (at.old.walk.place + 1)
+        (T.tracked at.old.tracker) found.old }
+    ensures { IsGoneOver T.tracked L.program L.holds program.now.listing at.old at.new found.old
+        found.new lines.old lines.new result }
+{
+    let mut few = [NO_LETTER; FEW_LETTERS];
+    // The list is taken out of what the collapse changes.
+    let mut many = Vec::new(*found.alloc);
+    mem::swap(&mut many, &mut found.terms);
+    let terms = terms_of(letters, &mut few, &mut many)?;
+    collapse(program, terms, None, rec, flip, at, found, lines)?;
+    found.terms = many;
     Ok(())
 }
 

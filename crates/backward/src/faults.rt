@@ -1,18 +1,21 @@
 //! Going back over faults: the line of each.
-ghost use Rattle.std.specs.Prelude.{◌≡◌, ◌<◌, ◌+◌, length, reverse, All, OnOk};
+ghost use Rattle.std.specs.Prelude.{◌≡◌, ◌<◌, ◌+◌, length, reverse, All, IfSome, OnOk};
 ghost use Rattle.step_model.specs.Listing.{Fault};
 ghost use Rattle.step_model.specs.Targets.{targets_of};
-ghost use Rattle.programs.specs.Kept.{kept_at};
-ghost use Rattle.programs.specs.Named.{IsNamed, IsNamedFlip};
+ghost use Rattle.step_model.specs.Chances.{chance_at};
+ghost use Rattle.circuit_walk.specs.Letters.{AreSmall, letters_in};
+ghost use Rattle.circuit_walk.specs.Named.{IsStepOf};
+ghost use Rattle.circuit_walk.specs.declared.step.Step.TheVariants as step;
 ghost use Rattle.backward.specs.private.Passes.{IsPassed, IsStepAt};
 ghost use Rattle.backward.specs.private.Steps.{AreGoneOver, IsGoneOver, StandsBefore};
 ghost use Rattle.backward.specs.private.Stretches.{Gives, flip_line, line_for};
 ghost use Rattle.trackers.specs.Tracked.{anticommuting};
 
 use crate::found::Found;
+use crate::letters::{FEW_LETTERS, NO_LETTER, lone_letter, terms_of};
 use crate::line_store::LineStore;
 use crate::point::Point;
-use programs::{FaultName, Program};
+use circuit_walk::{FaultName, Letters, Program};
 use std::alloc::{AllocError, Allocator};
 use step_model::Term;
 use trackers::{FEW, Tracker};
@@ -24,7 +27,7 @@ pub(crate) fn note_flip<'a, A: Allocator + Copy, L: LineStore>(
     targets: &[u32],
     lines: &mut L,
 ) -> Result<(), AllocError>
-    requires flip { IsNamedFlip program.now flip }
+    requires flip { IfSome flip (λ name. name.chance < length program.now.chances) }
     requires named { All (λ t. t < length (targets_of program.now.listing)) targets.now }
     requires store { L.program lines.old ≡ program.now }
     ensures lines { OnOk result
@@ -32,7 +35,7 @@ pub(crate) fn note_flip<'a, A: Allocator + Copy, L: LineStore>(
     ensures store { L.program lines.new ≡ L.program lines.old }
 {
     match flip {
-        Some(name) => note_line(program, name.entry, targets, lines),
+        Some(name) => note_line(program, name.chance, targets, lines),
         None => Ok(()),
     }
 }
@@ -41,54 +44,58 @@ pub(crate) fn note_flip<'a, A: Allocator + Copy, L: LineStore>(
 #[inline]
 fn note_line<'a, A: Allocator + Copy, L: LineStore>(
     program: &Program<'a, A>,
-    entry: u32,
+    chance: u32,
     targets: &[u32],
     lines: &mut L,
 ) -> Result<(), AllocError>
-    requires entry { entry < length program.now.kept }
+    requires chance { chance < length program.now.chances }
     requires named { All (λ t. t < length (targets_of program.now.listing)) targets.now }
     requires store { L.program lines.old ≡ program.now }
     ensures lines { OnOk result
         (Gives (L.holds lines.old) (L.holds lines.new)
-        (line_for (kept_at program.now entry).text targets.now)) }
+        (line_for (chance_at program.now.chances chance).text targets.now)) }
     ensures store { L.program lines.new ≡ L.program lines.old }
 {
     if targets.is_empty() {
         Ok(())
     } else {
-        lines.give(entry, targets)
+        lines.give(chance, targets)
     }
 }
 
 // The same with targets that come from the last to the first.
 #[inline(always)]
-fn note_reversed<L: LineStore>(entry: u32, targets: &[u32], lines: &mut L) -> Result<(), AllocError>
-    requires entry { entry < length (L.program lines.old).kept }
+fn note_reversed<L: LineStore>(
+    chance: u32,
+    targets: &[u32],
+    lines: &mut L,
+) -> Result<(), AllocError>
+    requires chance { chance < length (L.program lines.old).chances }
     requires named { All (λ t. t < length (targets_of (L.program lines.old).listing)) targets.now }
     ensures lines { OnOk result
         (Gives (L.holds lines.old) (L.holds lines.new)
-        (line_for (kept_at (L.program lines.old) entry).text (reverse targets.now))) }
+        (line_for (chance_at (L.program lines.old).chances chance).text (reverse targets.now))) }
     ensures store { L.program lines.new ≡ L.program lines.old }
 {
     if targets.is_empty() {
         Ok(())
     } else {
-        lines.give_reversed(entry, targets)
+        lines.give_reversed(chance, targets)
     }
 }
 
-// Gives the line of a fault of these letters. Its targets are put into a buffer, where they are few into a short one. By a call,
-// so that the loop over a run of faults is short.
-#[inline(never)]
-fn note_listed<'a, A: Allocator + Copy, T: Tracker, L: LineStore>(
+// Gives the line of a fault of these letters: of the targets whose words anticommute with their product. Where the tracker keeps
+// these targets in a list, none is copied.
+#[inline(always)]
+fn fault<'a, A: Allocator + Copy, T: Tracker, L: LineStore>(
     program: &Program<'a, A>,
-    entry: u32,
+    chance: u32,
     terms: &[Term],
     tracker: &mut T,
     hit: &mut Vec<u32, A>,
     lines: &mut L,
 ) -> Result<(), AllocError>
-    requires entry { entry < length program.now.kept }
+    requires chance { chance < length program.now.chances }
     requires terms { All (λ term. term.qubit < (T.tracked tracker.old).qubits) terms.now }
     requires words { length (T.tracked tracker.old).words
         ≡ length (targets_of program.now.listing) }
@@ -96,49 +103,114 @@ fn note_listed<'a, A: Allocator + Copy, T: Tracker, L: LineStore>(
     ensures words { T.tracked tracker.new ≡ T.tracked tracker.old }
     ensures lines { OnOk result
         (Gives (L.holds lines.old) (L.holds lines.new)
-        (line_for (kept_at program.now entry).text
+        (line_for (chance_at program.now.chances chance).text
+        (anticommuting terms.now (T.tracked tracker.old)))) }
+    ensures store { L.program lines.new ≡ L.program lines.old }
+{
+    if let Some(kept) = tracker.kept_hit(terms) {
+        return note_reversed(chance, kept, lines);
+    }
+    note_listed(program, chance, terms, tracker, hit, lines)
+}
+
+// The same where the targets are put into a buffer, where they are few into a short one. By a call, so that the loop over a run
+// of faults is short.
+#[inline(never)]
+fn note_listed<'a, A: Allocator + Copy, T: Tracker, L: LineStore>(
+    program: &Program<'a, A>,
+    chance: u32,
+    terms: &[Term],
+    tracker: &mut T,
+    hit: &mut Vec<u32, A>,
+    lines: &mut L,
+) -> Result<(), AllocError>
+    requires chance { chance < length program.now.chances }
+    requires terms { All (λ term. term.qubit < (T.tracked tracker.old).qubits) terms.now }
+    requires words { length (T.tracked tracker.old).words
+        ≡ length (targets_of program.now.listing) }
+    requires store { L.program lines.old ≡ program.now }
+    ensures words { T.tracked tracker.new ≡ T.tracked tracker.old }
+    ensures lines { OnOk result
+        (Gives (L.holds lines.old) (L.holds lines.new)
+        (line_for (chance_at program.now.chances chance).text
         (anticommuting terms.now (T.tracked tracker.old)))) }
     ensures store { L.program lines.new ≡ L.program lines.old }
 {
     let mut few = [0; FEW];
     if let Some(count) = tracker.few_hit(terms, &mut few) {
-        return note_reversed(entry, &few[..count], lines);
+        return note_reversed(chance, &few[..count], lines);
     }
     tracker.hit(terms, hit)?;
-    note_line(program, entry, hit.as_slice(), lines)
+    note_line(program, chance, hit.as_slice(), lines)
 }
 
-// Goes back over a fault: gives the line of the targets whose words it anticommutes with. Where the tracker keeps these
-// targets in a list, none is copied.
+// The same of letters that a step lends, which may be many.
+#[inline(never)]
+fn fault_of_many<'a, A: Allocator + Copy, T: Tracker, L: LineStore>(
+    program: &Program<'a, A>,
+    chance: u32,
+    letters: Letters<'_>,
+    tracker: &mut T,
+    hit: &mut Vec<u32, A>,
+    many: &mut Vec<Term, A>,
+    lines: &mut L,
+) -> Result<(), AllocError>
+    requires chance { chance < length program.now.chances }
+    requires small { AreSmall letters }
+    requires terms { All (λ term. term.qubit < (T.tracked tracker.old).qubits)
+        (letters_in letters) }
+    requires words { length (T.tracked tracker.old).words
+        ≡ length (targets_of program.now.listing) }
+    requires store { L.program lines.old ≡ program.now }
+    ensures words { T.tracked tracker.new ≡ T.tracked tracker.old }
+    ensures lines { OnOk result
+        (Gives (L.holds lines.old) (L.holds lines.new)
+        (line_for (chance_at program.now.chances chance).text
+        (anticommuting (letters_in letters.entry) (T.tracked tracker.old)))) }
+    ensures store { L.program lines.new ≡ L.program lines.old }
+{
+    let mut few = [NO_LETTER; FEW_LETTERS];
+    let terms = terms_of(letters, &mut few, many)?;
+    fault(program, chance, terms, tracker, hit, lines)
+}
+
+// Goes back over a fault: gives its line.
 #[inline(always)]
-fn fault<'s, 'p, 'a, A: Allocator + Copy, T: Tracker, L: LineStore>(
+fn fault_back<'s, 'p, 'a, A: Allocator + Copy, T: Tracker, L: LineStore>(
     program: &Program<'a, A>,
     name: FaultName,
+    letters: Letters<'_>,
     at: &mut Point<'p, 'a, A, T>,
     found: &mut Found<'s, A>,
     lines: &mut L,
 ) -> Result<(), AllocError>
     requires step { IsStepAt program.now.listing at.old.walk.place (Fault name.number) }
-    requires named { IsNamed program.now name }
+    requires named { IsStepOf program.now (step.Fault name letters) }
     requires store { L.program lines.old ≡ program.now }
     requires passed { IsPassed program.now.listing (at.old.walk.place + 1)
         (T.tracked at.old.tracker) found.old }
     ensures { IsGoneOver T.tracked L.program L.holds program.now.listing at.old at.new found.old
         found.new lines.old lines.new result }
 {
-    program.well_formed();
-    let terms = program.entry_terms(name.entry);
-    if let Some(kept) = at.tracker.kept_hit(terms) {
-        return note_reversed(name.entry, kept, lines);
+    match lone_letter(letters) {
+        Some(term) => fault(
+            program,
+            name.chance,
+            &[term],
+            &mut at.tracker,
+            &mut found.hit,
+            lines,
+        ),
+        None => fault_of_many(
+            program,
+            name.chance,
+            letters,
+            &mut at.tracker,
+            &mut found.hit,
+            &mut found.terms,
+            lines,
+        ),
     }
-    note_listed(
-        program,
-        name.entry,
-        terms,
-        &mut at.tracker,
-        &mut found.hit,
-        lines,
-    )
 }
 
 /// Goes back over a fault, which the walk has gone back over already, and over the faults right before it, to a place at
@@ -147,6 +219,7 @@ fn fault<'s, 'p, 'a, A: Allocator + Copy, T: Tracker, L: LineStore>(
 pub(crate) fn faults_back<'s, 'p, 'a, A: Allocator + Copy, T: Tracker, L: LineStore>(
     program: &Program<'a, A>,
     last: FaultName,
+    letters: Letters<'p>,
     to: usize,
     at: &mut Point<'p, 'a, A, T>,
     found: &mut Found<'s, A>,
@@ -154,13 +227,13 @@ pub(crate) fn faults_back<'s, 'p, 'a, A: Allocator + Copy, T: Tracker, L: LineSt
 ) -> Result<(), AllocError>
     requires before { StandsBefore T.tracked L.program program.now to (Fault last.number) at.old
         found.old lines.old }
-    requires named { IsNamed program.now last }
+    requires named { IsStepOf program.now (step.Fault last letters) }
     ensures { AreGoneOver T.tracked L.program L.holds program.now.listing to
         (at.old.walk.place + 1) at.old at.new found.old found.new lines.old lines.new result }
 {
-    let mut left = Some(last);
-    while let Some(name) = left {
-        fault(program, name, at, found, lines)?;
+    let mut left = Some((last, letters));
+    while let Some((name, letters)) = left {
+        fault_back(program, name, letters, at, found, lines)?;
         left = if at.walk.place() > to {
             at.walk.previous_fault()
         } else {

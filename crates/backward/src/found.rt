@@ -7,7 +7,7 @@ ghost use Rattle.backward.specs.private.Collapses.{members_at, noted};
 ghost use Rattle.backward.specs.private.Passes.{HoldsLists, IsPassed, opened, records_before};
 
 use crate::places::note;
-use programs::Program;
+use circuit_walk::Program;
 use record_targets::ChangingLists;
 use std::alloc::{AllocError, Allocator};
 use step_model::Term;
@@ -33,6 +33,8 @@ pub(crate) struct Found<'s, A: Allocator + Copy> {
     pub(crate) left: u32,
     /// A buffer.
     pub(crate) hit: Vec<u32, A>,
+    /// Another, of letters.
+    pub(crate) terms: Vec<Term, A>,
 }
 
 // Written out, so that it is a call in the proof of each function that owns one.
@@ -47,10 +49,12 @@ impl<A: Allocator + Copy> Drop for Found<'_, A> {
             latest,
             left: _,
             hit,
+            terms,
         } = self;
         drop(lists);
         drop(latest);
         drop(hit);
+        drop(terms);
     }
 }
 
@@ -73,6 +77,7 @@ impl<'s, A: Allocator + Copy> Found<'s, A> {
             latest: Vec::new(*alloc),
             left: program.collapse_count(),
             hit: Vec::new(*alloc),
+            terms: Vec::new(*alloc),
         })
     }
 

@@ -6,6 +6,7 @@ mod analysis;
 mod collapse;
 mod faults;
 mod found;
+mod letters;
 mod line_store;
 mod moved;
 mod pass;

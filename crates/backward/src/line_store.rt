@@ -1,12 +1,13 @@
 //! Where a pass puts the error lines that it finds, the last fault's first.
 ghost use Rattle.std.specs.Prelude.{◌≡◌, ◌<◌, ◌∷◌, [], List, length, reverse, All, OnOk};
 ghost use Rattle.step_model.specs.ErrorModels.{ErrorLine};
-ghost use Rattle.programs.specs.Kept.{KeptProgram, kept_at};
+ghost use Rattle.circuit_walk.specs.Programs.{KeptProgram};
+ghost use Rattle.step_model.specs.Chances.{chance_at};
 ghost use Rattle.step_model.specs.Targets.{targets_of};
 ghost use Rattle.backward.specs.private.Stretches.{Gives};
 
+use circuit_walk::Program;
 use error_models::Model;
-use programs::Program;
 use std::alloc::{AllocError, Allocator};
 
 /// A store that lines are given to, one after another. After an error nothing is promised about what it holds.
@@ -17,25 +18,27 @@ pub(crate) trait LineStore {
     // These lines were given to it, in this order.
     ghost holds: { Self → List ErrorLine → Type 0 };
 
-    /// Takes the line of a fault with this entry, which flips these targets.
-    fn give(&mut self, entry: u32, targets: &[u32]) -> Result<(), AllocError>
-        requires entry { entry < length (program self.old).kept }
-        requires named { All (λ t. t < length (targets_of (program self.old).listing)) targets.now }
-        ensures program { program self.new ≡ program self.old }
-        ensures holds { OnOk result
-            (Gives (holds self.old) (holds self.new)
-            (record { text = (kept_at (program self.old) entry).text; targets = targets.now }
-            ∷ [])) };
-
-    /// The same with targets that come from the last to the first.
-    fn give_reversed(&mut self, entry: u32, targets: &[u32]) -> Result<(), AllocError>
-        requires entry { entry < length (program self.old).kept }
+    /// Takes the line of a fault with this probability, by its number, which flips these targets.
+    fn give(&mut self, chance: u32, targets: &[u32]) -> Result<(), AllocError>
+        requires chance { chance < length (program self.old).chances }
         requires named { All (λ t. t < length (targets_of (program self.old).listing)) targets.now }
         ensures program { program self.new ≡ program self.old }
         ensures holds { OnOk result
             (Gives (holds self.old) (holds self.new)
             (record {
-              text = (kept_at (program self.old) entry).text;
+              text = (chance_at (program self.old).chances chance).text;
+              targets = targets.now;
+            } ∷ [])) };
+
+    /// The same with targets that come from the last to the first.
+    fn give_reversed(&mut self, chance: u32, targets: &[u32]) -> Result<(), AllocError>
+        requires chance { chance < length (program self.old).chances }
+        requires named { All (λ t. t < length (targets_of (program self.old).listing)) targets.now }
+        ensures program { program self.new ≡ program self.old }
+        ensures holds { OnOk result
+            (Gives (holds self.old) (holds self.new)
+            (record {
+              text = (chance_at (program self.old).chances chance).text;
               targets = reverse targets.now;
             } ∷ [])) };
 }
@@ -53,16 +56,16 @@ impl<'p, 'a, A: Allocator + Copy> LineStore for ModelStore<'p, 'a, A> {
 
     ghost holds = { λ store lines. store.model.lines ≡ lines };
 
-    fn give(&mut self, entry: u32, targets: &[u32]) -> Result<(), AllocError> {
+    fn give(&mut self, chance: u32, targets: &[u32]) -> Result<(), AllocError> {
         self.model
-            .push_line(self.program.entry_text(entry), targets)
+            .push_line(self.program.chance_text(chance), targets)
     }
 
-    fn give_reversed(&mut self, entry: u32, targets: &[u32]) -> Result<(), AllocError> {
+    fn give_reversed(&mut self, chance: u32, targets: &[u32]) -> Result<(), AllocError> {
         let mut ordered = Vec::new(self.alloc);
         ordered.extend_from_slice(targets)?;
         ordered.reverse();
-        self.give(entry, ordered.as_slice())
+        self.give(chance, ordered.as_slice())
     }
 }
 
@@ -79,11 +82,11 @@ impl<'p, 'a, A: Allocator + Copy> LineStore for NoLines<'p, 'a, A> {
 
     ghost holds = { λ store lines. ⊤ };
 
-    fn give(&mut self, _entry: u32, _targets: &[u32]) -> Result<(), AllocError> {
+    fn give(&mut self, _chance: u32, _targets: &[u32]) -> Result<(), AllocError> {
         Ok(())
     }
 
-    fn give_reversed(&mut self, _entry: u32, _targets: &[u32]) -> Result<(), AllocError> {
+    fn give_reversed(&mut self, _chance: u32, _targets: &[u32]) -> Result<(), AllocError> {
         Ok(())
     }
 }

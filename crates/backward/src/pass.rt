@@ -1,16 +1,16 @@
 //! Going back over the steps of a program, one at a time, or over a run of faults at once.
 ghost use Rattle.std.specs.Prelude.{◌<◌, ◌+◌};
-ghost use Rattle.programs.specs.Listed.{listed};
-ghost use Rattle.programs.specs.Named.{IsStepOf};
+ghost use Rattle.circuit_walk.specs.Steps.{listed};
+ghost use Rattle.circuit_walk.specs.Named.{IsStepOf};
 ghost use Rattle.backward.specs.private.Passes.{IsFeedbackAt, IsPassed};
 ghost use Rattle.backward.specs.private.Steps.{AreGoneOver, IsUndone, StandsAt, StandsBefore};
 
-use crate::collapse::collapse;
+use crate::collapse::{collapse, collapse_word};
 use crate::faults::faults_back;
 use crate::found::Found;
 use crate::line_store::LineStore;
 use crate::point::Point;
-use programs::{Program, Step};
+use circuit_walk::{Program, Step};
 use record_targets::target_count;
 use std::alloc::{AllocError, Allocator};
 use step_model::Term;
@@ -42,14 +42,14 @@ pub(crate) fn steps_back<'s, 'p, 'a, A: Allocator + Copy, T: Tracker, L: LineSto
 /// it, to a place at most.
 pub(crate) fn go_over<'s, 'p, 'a, A: Allocator + Copy, T: Tracker, L: LineStore>(
     program: &Program<'a, A>,
-    step: Step,
+    step: Step<'p>,
     to: usize,
     at: &mut Point<'p, 'a, A, T>,
     found: &mut Found<'s, A>,
     lines: &mut L,
 ) -> Result<(), AllocError>
     requires before { StandsBefore T.tracked L.program program.now to
-        (listed program.now.listing.qubits program.now.products step) at.old found.old lines.old }
+        (listed program.now.listing.qubits step) at.old found.old lines.old }
     requires named { IsStepOf program.now step }
     ensures { AreGoneOver T.tracked L.program L.holds program.now.listing to
         (at.old.walk.place + 1) at.old at.new found.old found.new lines.old lines.new result }
@@ -71,15 +71,14 @@ pub(crate) fn go_over<'s, 'p, 'a, A: Allocator + Copy, T: Tracker, L: LineStore>
             collapse(program, &terms, reset, rec, flip, at, found, lines)
         }
         Step::CollapseWord {
-            product,
+            letters,
             rec,
             flip,
             ..
-        } => {
-            let terms = program.product(product);
-            collapse(program, terms, None, rec, flip, at, found, lines)
+        } => collapse_word(program, letters, rec, flip, at, found, lines),
+        Step::Fault { name, letters } => {
+            faults_back(program, name, letters, to, at, found, lines)
         }
-        Step::Fault(name) => faults_back(program, name, to, at, found, lines),
         Step::Feedback { letter, q, rec } => {
             feedback(program, Term { qubit: q, letter }, rec, at, found)
         }

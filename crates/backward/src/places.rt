@@ -6,8 +6,8 @@ ghost use Rattle.backward.specs.private.Passes.{IsPassed, tracked_before, lowest
 ghost use Rattle.backward.specs.Places.{IsLowestRandom, NoneIsRandom, place_from};
 
 use crate::found::Found;
+use circuit_walk::Program;
 use pauli_word::Letter;
-use programs::Program;
 use record_targets::target_count;
 use std::alloc::{AllocError, Allocator};
 use step_model::{Place, Term};

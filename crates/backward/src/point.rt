@@ -1,7 +1,7 @@
 //! A place between two steps of a program, with the words there.
 use crate::moved::size_of_lists;
+use circuit_walk::Walk;
 use flat_lists::FlatLists;
-use programs::Walk;
 use std::alloc::Allocator;
 
 /// How many bytes an item of a list takes, and the place where a list ends.

@@ -10,7 +10,7 @@ use crate::line_store::NoLines;
 use crate::pass::go_over;
 use crate::point::{KeptPoint, Point};
 use crate::turns::{KeptTurns, Looks, pass_turns};
-use programs::{Program, Step};
+use circuit_walk::{Program, Step};
 use std::alloc::{AllocError, Allocator};
 use trackers::Tracker;
 
@@ -169,7 +169,7 @@ fn back_without_lines<'s, 'p, 'a, A: Allocator + Copy, T: Tracker>(
     ensures stays { Stays found.old found.new }
 {
     match at.walk.previous_step() {
-        Some(Step::Fault(_)) => {
+        Some(Step::Fault { .. }) => {
             at.walk.pass_faults_back(to);
             Ok(())
         }

@@ -10,7 +10,7 @@ use crate::found::Found;
 use crate::places::random_target;
 use crate::point::Point;
 use crate::segments::leave_segments;
-use programs::{Program, Walk};
+use circuit_walk::{Program, Walk};
 use std::alloc::{AllocError, Allocator};
 use step_model::{Fault, Place};
 use trackers::Tracker;

@@ -14,7 +14,7 @@ use crate::stretch::write_parts;
 use crate::text_store::TextStore;
 use crate::turn_lines::push_turns;
 use crate::turns::KeptTurns;
-use programs::Program;
+use circuit_walk::Program;
 use std::alloc::{AllocError, Allocator};
 use step_model::{Pieces, Sink};
 use trackers::Tracker;

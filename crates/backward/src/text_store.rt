@@ -3,11 +3,11 @@ ghost use Rattle.std.specs.Prelude.{◌≡◌, ◌<◌, [], length, IfOk};
 ghost use Rattle.backward.specs.private.Numbered.{AreNumbers, IsTextFor};
 ghost use Rattle.error_models.specs.ErrorLines.{text_at};
 ghost use Rattle.error_models.specs.HeldText.{HoldsLines};
-ghost use Rattle.programs.specs.Kept.{kept_at};
+ghost use Rattle.step_model.specs.Chances.{chance_at};
 
 use crate::line_store::LineStore;
+use circuit_walk::Program;
 use error_models::{HeldText, LinesText};
-use programs::{ChanceTable, Program};
 use record_targets::target_count;
 use std::alloc::{AllocError, Allocator};
 use step_model::ChanceText;
@@ -37,8 +37,7 @@ const STEP_ROOM: usize = 4096;
 /// The text of a program's lines.
 pub(crate) struct TextStore<'p, 'a, A: Allocator + Copy> {
     program: &'p Program<'a, A>,
-    chances: ChanceTable<'p, 'a>,
-    // For each part of the table the number of its text among those that are kept beside the lines.
+    // For each of the program's probabilities the number of its text among those that are kept beside the lines.
     numbers: Vec<usize, A>,
     text: LinesText<'a, A>,
     // How much room the text of a part has.
@@ -46,7 +45,7 @@ pub(crate) struct TextStore<'p, 'a, A: Allocator + Copy> {
     // From how many bytes on a text is full, and how many it may have where it seems to be whole then.
     full: usize,
     whole: usize,
-    ghost fits: { IsTextFor program.now chances numbers.items text },
+    ghost fits: { IsTextFor program.now numbers.items text },
 }
 
 // Written out, so that it is a call in the proof of each function that owns one.
@@ -54,7 +53,6 @@ impl<A: Allocator + Copy> Drop for TextStore<'_, '_, A> {
     fn drop(self) {
         let TextStore {
             program: _,
-            chances: _,
             numbers,
             text,
             room: _,
@@ -77,12 +75,10 @@ impl<'p, 'a, A: Allocator + Copy> TextStore<'p, 'a, A> {
         ensures program { IfOk result (λ store. store.program.now ≡ program.now) }
     {
         program.well_formed();
-        let chances = program.chances();
         let mut text = LinesText::new(alloc, program.detector_count(), target_count(program))?;
-        let numbers = kept_numbers(alloc, chances.parts, &mut text)?;
+        let numbers = kept_numbers(alloc, program.chances(), &mut text)?;
         Ok(TextStore {
             program,
-            chances,
             numbers,
             text,
             room: room / PARTS,
@@ -135,16 +131,15 @@ impl<'p, 'a, A: Allocator + Copy> TextStore<'p, 'a, A> {
         self.whole = self.full.saturating_mul(WHOLE_PART);
     }
 
-    // The number of the text of an entry's probability.
+    // The number of the text of a probability.
     #[inline(always)]
-    fn text_number(&self, entry: u32) -> usize
-        requires { entry < length self.now.program.now.kept }
+    fn text_number(&self, chance: u32) -> usize
+        requires { chance < length self.now.program.now.chances }
         ensures within { result < length self.now.text.texts }
         ensures named { text_at self.now.text.texts result
-            ≡ (kept_at self.now.program.now entry).text }
+            ≡ (chance_at self.now.program.now.chances chance).text }
     {
-        let chance = self.chances.numbers[entry as usize] as usize;
-        self.numbers[chance]
+        self.numbers[chance as usize]
     }
 
     /// Takes the text out.
@@ -172,21 +167,21 @@ fn fits(len: usize, steps: usize, all: usize, most: usize) -> bool {
     len <= most && len.saturating_mul(all) <= most.saturating_mul(steps)
 }
 
-// Keeps the text of each part, and answers its number for each.
+// Keeps the text of each of these probabilities, and answers its number for each.
 fn kept_numbers<'a, A: Allocator + Copy>(
     alloc: A,
-    parts: &[ChanceText<'a>],
+    chances: &[ChanceText<'a>],
     text: &mut LinesText<'a, A>,
 ) -> Result<Vec<usize, A>, AllocError>
-    ensures numbers { IfOk result (λ numbers. AreNumbers parts.now text.new.texts numbers.items) }
-    ensures counted { IfOk result (λ numbers. length numbers.items ≡ length parts.now) }
+    ensures numbers { IfOk result (λ numbers. AreNumbers chances.now text.new.texts numbers.items) }
+    ensures counted { IfOk result (λ numbers. length numbers.items ≡ length chances.now) }
     ensures detectors { text.new.detectors ≡ text.old.detectors }
     ensures targets { text.new.targets ≡ text.old.targets }
     ensures text { text.new.text ≡ text.old.text }
 {
-    let mut numbers = Vec::with_capacity(alloc, parts.len())?;
-    for part in parts {
-        let number = text.keep_text(part.text)?;
+    let mut numbers = Vec::with_capacity(alloc, chances.len())?;
+    for chance in chances {
+        let number = text.keep_text(chance.text)?;
         numbers.push(number)?;
     }
     Ok(numbers)
@@ -197,14 +192,14 @@ impl<'p, 'a, A: Allocator + Copy> LineStore for TextStore<'p, 'a, A> {
 
     ghost holds = { λ store lines. HoldsLines store.text lines };
 
-    fn give(&mut self, entry: u32, targets: &[u32]) -> Result<(), AllocError> {
-        let number = self.text_number(entry);
+    fn give(&mut self, chance: u32, targets: &[u32]) -> Result<(), AllocError> {
+        let number = self.text_number(chance);
         self.text.put_line(number, targets)
     }
 
     #[inline]
-    fn give_reversed(&mut self, entry: u32, targets: &[u32]) -> Result<(), AllocError> {
-        let number = self.text_number(entry);
+    fn give_reversed(&mut self, chance: u32, targets: &[u32]) -> Result<(), AllocError> {
+        let number = self.text_number(chance);
         self.text.put_line_reversed(number, targets)
     }
 }

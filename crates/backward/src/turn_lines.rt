@@ -9,8 +9,8 @@ ghost use Rattle.backward.specs.private.TurnLines.{AreClear, GivesTurns, moved_e
 use crate::line_store::LineStore;
 use crate::moved::{Shift, are_clear, item_count, move_list};
 use crate::text_store::TextStore;
+use circuit_walk::Program;
 use flat_lists::FlatLists;
-use programs::Program;
 use std::alloc::{AllocError, Allocator};
 use std::marker::Model;
 use step_model::{Pieces, Sink};
@@ -30,8 +30,8 @@ const MOST: usize = 1 << 20;
 pub(crate) struct TurnLines<'p, 'a, A: Allocator + Copy> {
     alloc: A,
     program: &'p Program<'a, A>,
-    // The entry of each line's fault, and its targets.
-    entries: Vec<u32, A>,
+    // The number of the probability of each line's fault, and its targets.
+    chances: Vec<u32, A>,
     targets: FlatLists<u32, A>,
     // How many of both there are, as far as they are counted.
     kept: usize,
@@ -39,15 +39,19 @@ pub(crate) struct TurnLines<'p, 'a, A: Allocator + Copy> {
 
 impl<'p, 'a, A: Allocator + Copy> Model for TurnLines<'p, 'a, A> {
     ghost use Rattle.backward.specs.private.TurnLines.{AreKeptLines, KeptLines, kept_lines};
+    ghost use Rattle.std.specs.Coded.{codes};
+    ghost use Rattle.circuit_walk.specs.Programs.{coded_circuit};
 
     ghost Value = { KeptLines };
 
+    ghost coded = { Prim.hlevel (codes, coded_circuit) };
+
     ghost view = { λ t. record {
       program = t.program.now;
-      lines = kept_lines t.program.now t.entries.items t.targets;
+      lines = kept_lines t.program.now t.chances.items t.targets;
     } };
 
-    ghost invariant = { λ t. AreKeptLines t.program.now t.entries.items t.targets };
+    ghost invariant = { λ t. AreKeptLines t.program.now t.chances.items t.targets };
 }
 
 // Written out, so that it is a call in the proof of each function that owns one.
@@ -56,11 +60,11 @@ impl<A: Allocator + Copy> Drop for TurnLines<'_, '_, A> {
         let TurnLines {
             alloc: _,
             program: _,
-            entries,
+            chances,
             targets,
             kept: _,
         } = self;
-        drop(entries);
+        drop(chances);
         drop(targets);
     }
 }
@@ -73,7 +77,7 @@ impl<'p, 'a, A: Allocator + Copy> TurnLines<'p, 'a, A> {
         TurnLines {
             alloc,
             program,
-            entries: Vec::new(alloc),
+            chances: Vec::new(alloc),
             targets: FlatLists::new(alloc),
             kept: 0,
         }
@@ -97,21 +101,21 @@ impl<'p, 'a, A: Allocator + Copy> TurnLines<'p, 'a, A> {
     }
 }
 
-// Puts the entry of a line's fault and its targets behind the others. Nothing changes where memory runs out.
+// Puts the number of the probability of a line's fault, and its targets, behind the others. Nothing changes where memory runs out.
 fn keep_line<A: Allocator + Copy>(
-    entries: &mut Vec<u32, A>,
+    chances: &mut Vec<u32, A>,
     lists: &mut FlatLists<u32, A>,
-    entry: u32,
+    chance: u32,
     targets: &[u32],
 ) -> Result<(), AllocError>
-    ensures entry { OnOk result (entries.new.items ≡ entries.old.items ++ entry ∷ []) }
+    ensures chance { OnOk result (chances.new.items ≡ chances.old.items ++ chance ∷ []) }
     ensures targets { OnOk result (lists.new ≡ lists.old ++ targets.now ∷ []) }
-    ensures same_entries { OnErr result (entries.new.items ≡ entries.old.items) }
+    ensures same_chances { OnErr result (chances.new.items ≡ chances.old.items) }
     ensures same_lists { OnErr result (lists.new ≡ lists.old) }
 {
-    entries.reserve(1)?;
+    chances.reserve(1)?;
     lists.push(targets)?;
-    entries.push_reserved(entry);
+    chances.push_reserved(chance);
     Ok(())
 }
 
@@ -120,16 +124,16 @@ impl<'p, 'a, A: Allocator + Copy> LineStore for TurnLines<'p, 'a, A> {
 
     ghost holds = { λ store lines. store.lines ≡ lines };
 
-    fn give(&mut self, entry: u32, targets: &[u32]) -> Result<(), AllocError> {
+    fn give(&mut self, chance: u32, targets: &[u32]) -> Result<(), AllocError> {
         self.kept = self.kept.saturating_add(targets.len()).saturating_add(1);
-        keep_line(&mut self.entries, &mut self.targets, entry, targets)
+        keep_line(&mut self.chances, &mut self.targets, chance, targets)
     }
 
-    fn give_reversed(&mut self, entry: u32, targets: &[u32]) -> Result<(), AllocError> {
+    fn give_reversed(&mut self, chance: u32, targets: &[u32]) -> Result<(), AllocError> {
         let mut ordered = Vec::new(self.alloc);
         ordered.extend_from_slice(targets)?;
         ordered.reverse();
-        self.give(entry, ordered.as_slice())
+        self.give(chance, ordered.as_slice())
     }
 }
 
@@ -147,10 +151,10 @@ pub(crate) fn give_turn<'p, 'a, A: Allocator + Copy, L: LineStore>(
         (Gives (L.holds lines.old) (L.holds lines.new)
         (moved_error_lines staying by turn.now.lines)) }
 {
-    for i in 0..turn.entries.len() {
+    for i in 0..turn.chances.len() {
         move_list(turn.targets.get(i), by, staying, room)?;
         if !room.is_empty() {
-            lines.give(turn.entries[i], room.as_slice())?;
+            lines.give(turn.chances[i], room.as_slice())?;
         }
     }
     Ok(())
@@ -183,7 +187,7 @@ fn give_turns<'p, 'a, A: Allocator + Copy, L: LineStore>(
 fn turns_at_once<'p, 'a, A: Allocator + Copy>(turn: &TurnLines<'p, 'a, A>) -> usize
     ensures { 0 < result }
 {
-    let lines = turn.entries.len().saturating_mul(LINE);
+    let lines = turn.chances.len().saturating_mul(LINE);
     let targets = item_count(&turn.targets).saturating_mul(TARGET);
     (AT_ONCE / lines.saturating_add(targets).max(1)).max(1)
 }

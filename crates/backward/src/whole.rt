@@ -12,8 +12,8 @@ use crate::segments::leave_segments;
 use crate::stretch::{Stretch, distance_for, find_back};
 use crate::text_store::TextStore;
 use crate::turns::{KeptTurns, Looks, end_of, pass_turns};
+use circuit_walk::Program;
 use error_models::HeldText;
-use programs::Program;
 use std::alloc::{AllocError, Allocator};
 use trackers::Tracker;
 

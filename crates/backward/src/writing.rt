@@ -20,11 +20,12 @@ use crate::segments::{push_kept, write_segments};
 use crate::text_store::TextStore;
 use crate::whole::{Whole, cut_whole};
 use arrayvec::ArrayVec;
+use circuit_walk::{Program, Walk};
 use error_models::{DetectorLines, MOST_LINES, push_observable};
-use programs::{Program, Walk};
 use record_targets::target_count;
 use std::alloc::{AllocError, Allocator};
 use step_model::{Fault, Pieces, Place, Sink};
+use target_lists::DetectorCoordinates;
 use trackers::Tracker;
 
 /// The room for the text of error lines. Up to five times as many bytes are held where that is all of it, else a quarter as
@@ -132,6 +133,8 @@ fn push_parts<'s, 'p, 'a, A: Allocator + Copy, T: Tracker, W: Sink>(
     match random_target(program, &mut at.tracker, found)? {
         Some(random) => Ok(Some(random)),
         None => {
+            // First, so that nothing is pushed where there is no memory for them.
+            let coordinates = DetectorCoordinates::of(*found.alloc, program)?;
             found.settled = true;
             let Whole {
                 mut segments,
@@ -142,7 +145,7 @@ fn push_parts<'s, 'p, 'a, A: Allocator + Copy, T: Tracker, W: Sink>(
             write_segments(program, cut, &mut segments, at, found, lines, out, sink)?;
             push_kept(program, cut, &turns, lines, out, sink)?;
             end.push_to(out, sink);
-            push_declarations(program, out, sink);
+            push_declarations(program, &coordinates, out, sink);
             Ok(None)
         }
     }
@@ -151,14 +154,16 @@ fn push_parts<'s, 'p, 'a, A: Allocator + Copy, T: Tracker, W: Sink>(
 // Pushes the lines of the detectors and the observables.
 fn push_declarations<'a, A: Allocator + Copy, W: Sink>(
     program: &Program<'a, A>,
+    coordinates: &DetectorCoordinates<A>,
     out: &mut Pieces,
     sink: &mut W,
 )
+    requires { coordinates.now ≡ program.now.listing.coordinates }
     ensures { Pushes W.taken W.failures sink.old sink.new out.old out.new
         (detectors_text (model_of program.now.listing)
         ++ observables_text (model_of program.now.listing)) }
 {
-    push_detectors(program, out, sink);
+    push_detectors(program, coordinates, out, sink);
     for observable in 0..program.observable_count() {
         push_observable(out, sink, observable);
     }
@@ -166,9 +171,11 @@ fn push_declarations<'a, A: Allocator + Copy, W: Sink>(
 
 fn push_detectors<'a, A: Allocator + Copy, W: Sink>(
     program: &Program<'a, A>,
+    coordinates: &DetectorCoordinates<A>,
     out: &mut Pieces,
     sink: &mut W,
 )
+    requires { coordinates.now ≡ program.now.listing.coordinates }
     ensures { Pushes W.taken W.failures sink.old sink.new out.old out.new
         (detectors_text (model_of program.now.listing)) }
 {
@@ -177,7 +184,7 @@ fn push_detectors<'a, A: Allocator + Copy, W: Sink>(
     let mut done = 0;
     while done < count {
         let next = done + MOST_LINES.min(count - done);
-        put_detectors(program, done, next, &mut lines);
+        put_detectors(program, coordinates, done, next, &mut lines);
         lines.push_to(out, sink);
         done = next;
     }
@@ -186,10 +193,12 @@ fn push_detectors<'a, A: Allocator + Copy, W: Sink>(
 // Puts the lines of detectors from one on, the last first.
 fn put_detectors<'a, A: Allocator + Copy>(
     program: &Program<'a, A>,
+    coordinates: &DetectorCoordinates<A>,
     from: usize,
     to: usize,
     lines: &mut DetectorLines,
 )
+    requires given { coordinates.now ≡ program.now.listing.coordinates }
     requires ordered { from ≤ to }
     requires within { to ≤ length program.now.listing.detectors }
     requires room { to - from ≤ lines.old.room }
@@ -201,11 +210,11 @@ fn put_detectors<'a, A: Allocator + Copy>(
 {
     let _few = target_count(program);
     program.well_formed();
-    let mut coordinates = ArrayVec::new();
+    let mut stated = ArrayVec::new();
     let mut left = to;
     while left > from {
         left -= 1;
-        program.put_coordinates(left, &mut coordinates);
-        lines.put(left as u32, coordinates.as_slice());
+        coordinates.put(left, &mut stated);
+        lines.put(left as u32, stated.as_slice());
     }
 }

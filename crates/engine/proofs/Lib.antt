@@ -6,4 +6,3 @@ pub mod QuietRuns
 pub mod ServedLemmas
 pub mod ServingLemmas
 pub mod RefusedLemmas
-pub mod UntargetedRuns

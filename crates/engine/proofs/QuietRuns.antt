@@ -97,3 +97,12 @@ unasked_output program None [] lines no_coins no_faults is =
     ap (λ (text : List ℕ). Ok (done text)) (sym none ∙ sym is)
 unasked_output program (Some text) faults lines no_coins no_faults is = cc
 unasked_output program None (byte ∷ text) lines no_coins no_faults is = cc
+
+-- the lines of a run without faults whose coins are all 0
+pub noiseless_output : (program : Listing) (records : List Bool) (targets : ℕ) (lines : List ℕ) → records ≡ records_of program [] (zero_coins program)
+    → targets ≡ length program.detectors + length program.observables
+    → lines ≡ line_of records ++ line_of (replicate targets false)
+    → program_output None [] program ≡ Ok (done lines)
+noiseless_output program records targets lines are count is =
+    let zeros = zero_coins program in
+    unasked_output program None [] lines refl refl (is ∙ quiet_lines program [] zeros _ targets refl (zeros-quiet program.collapses) are count)

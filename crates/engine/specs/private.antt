@@ -1,4 +1,3 @@
 pub mod Answered
-pub mod Drawn
 pub mod Predicted
 pub mod Served

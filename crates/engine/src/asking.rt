@@ -8,7 +8,7 @@ ghost use Rattle.step_model.specs.declared.step.Place.{Place};
 use crate::analysis::fresh_words;
 use crate::limited::Limited;
 use backward::first_random;
-use programs::{Program, Walk};
+use circuit_walk::{Program, Walk};
 use std::alloc::Allocator;
 use step_model::Fault;
 

@@ -1,22 +1,20 @@
 //! Shots of a circuit.
-ghost use Rattle.std.specs.Prelude.{◌≡◌, ◌⊎◌, Err, IfOk, IfErr, IsTrue};
+ghost use Rattle.std.specs.Prelude.{◌≡◌, IfOk, IfErr, IsTrue};
 ghost use Rattle.backward.specs.Places.{NoneIsRandom};
 ghost use Rattle.engine.specs.Output.{program_shots, refused_or, shots_output};
 ghost use Rattle.engine.specs.private.Answered.{Answers};
-ghost use Rattle.engine.specs.private.Drawn.{DrawsAs};
 ghost use Rattle.frames.specs.Shown.{shown_line};
 ghost use Rattle.frames.specs.declared.side_runs.Shown.TheVariants.{Detections};
 ghost use Rattle.step_model.specs.Faults.{memory_fault};
-ghost use Rattle.unroll.specs.Programs.{program_in};
 
 use crate::asking::{Randomness, randomness_of};
 use crate::order::Status;
 use crate::refusing::refuse;
+use circuit_walk::Program;
 use frames::Shown;
-use programs::Program;
 use std::alloc::Allocator;
 use step_model::{Cause, Fault, Sink};
-use unroll::{Untargeted, read_program, read_untargeted};
+use unroll::read_program;
 
 /// How many shots an order may ask for.
 const MOST_SHOTS: u64 = 1_000_000;
@@ -38,32 +36,9 @@ pub(crate) fn answer_shots<W: Sink, A: Allocator + Copy>(
     ensures { Answers W.taken W.failures sink.old sink.new
         (refused_or (shots_output (shown_line shown) shots seed text.now)) result }
 {
-    match read_drawn(alloc, shown, text) {
+    match read_program(alloc, text) {
         Ok(program) => write_shots(alloc, &program, shown, shots, seed, sink),
         Err(fault) => refuse(alloc, fault, sink),
-    }
-}
-
-/// A program whose shots show the same of it as those of the text's program, or why that is refused. What targets list isn't read
-/// where records are shown.
-fn read_drawn<'a, A: Allocator + Copy>(
-    alloc: A,
-    shown: Shown,
-    text: &'a [u8],
-) -> Result<Program<'a, A>, Fault>
-    ensures ok { IfOk result (λ program. DrawsAs (shown_line shown) (program_in text.now)
-        program.listing) }
-    ensures err { IfErr result (λ e. (e ≡ memory_fault) ⊎ (program_in text.now ≡ Err e)) }
-{
-    match shown {
-        Shown::Records => {
-            let Untargeted {
-                program,
-                targets: _,
-            } = read_untargeted(alloc, text)?;
-            Ok(program)
-        }
-        Shown::Detections => read_program(alloc, text),
     }
 }
 

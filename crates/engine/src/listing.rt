@@ -5,10 +5,10 @@ ghost use Rattle.engine.specs.private.Answered.{Answers};
 
 use crate::order::Status;
 use crate::refusing::refuse;
-use programs::Program;
+use circuit_walk::Program;
 use std::alloc::Allocator;
 use step_model::{Fault, Sink};
-use unroll::read_untargeted;
+use unroll::read_program;
 
 /// Writes the list of the faults of a text's circuit, or why it is refused.
 pub(crate) fn answer_faults<W: Sink, A: Allocator + Copy>(
@@ -19,9 +19,8 @@ pub(crate) fn answer_faults<W: Sink, A: Allocator + Copy>(
     ensures { Answers W.taken W.failures sink.old sink.new
         (refused_or (faults_output text.now)) result }
 {
-    // What targets list isn't read.
-    match read_untargeted(alloc, text) {
-        Ok(read) => write_faults(&read.program, sink),
+    match read_program(alloc, text) {
+        Ok(program) => write_faults(&program, sink),
         Err(fault) => refuse(alloc, fault, sink),
     }
 }

@@ -15,11 +15,11 @@ use crate::answering::write_answer;
 use crate::lines::run_lines;
 use crate::order::Status;
 use crate::refusing::refuse;
+use circuit_walk::Program;
 use forward_sim::{Records, detections, read_coins, read_numbers, run};
-use programs::Program;
 use std::alloc::Allocator;
 use step_model::{Fault, Sink};
-use unroll::{Untargeted, read_program, read_untargeted};
+use unroll::read_program;
 
 /// Writes the lines of a run of a text's circuit, or why it is refused.
 pub(crate) fn answer_run<W: Sink, A: Allocator + Copy>(
@@ -50,21 +50,11 @@ fn run_text<A: Allocator + Copy>(
     ensures err { IfErr result (λ e. (e ≡ memory_fault)
         ⊎ (run_output (option_copied coins.entry) faults.now text.now ≡ Err e)) }
 {
-    if coins.is_none() && faults.is_empty() {
-        return noiseless_text(alloc, text);
-    }
     let program = read_program(alloc, text)?;
+    if coins.is_none() && faults.is_empty() {
+        return noiseless_lines(alloc, program);
+    }
     run_program(alloc, &program, coins, faults)
-}
-
-/// What a run of a text's circuit writes in which no fault happens and each coin is 0, or why it is refused. No target differs
-/// from the run that it is compared with, so what targets list isn't read.
-fn noiseless_text<A: Allocator + Copy>(alloc: A, text: &[u8]) -> Result<Vec<u8, A>, Fault>
-    ensures ok { IfOk result (λ lines. run_output None [] text.now ≡ Ok (done lines.items)) }
-    ensures err { IfErr result (λ e. (e ≡ memory_fault) ⊎ (run_output None [] text.now ≡ Err e)) }
-{
-    let Untargeted { program, targets } = read_untargeted(alloc, text)?;
-    noiseless_lines(alloc, program, targets)
 }
 
 /// What a run of a program writes, or why it is refused.
@@ -131,18 +121,17 @@ fn lines_of_run<A: Allocator + Copy>(
     Ok(run_lines(alloc, &records, detections.as_slice())?)
 }
 
-/// The lines of the run in which no fault happens and each coin is 0, with so many targets. The program is no longer held where
-/// they are made.
+/// What the run writes in which no fault happens and each coin is 0. No target differs from the run that it is compared with, so
+/// what targets list isn't read; and the program is no longer held where the lines are made.
 fn noiseless_lines<A: Allocator + Copy>(
     alloc: A,
     program: Program<'_, A>,
-    targets: usize,
 ) -> Result<Vec<u8, A>, Fault>
-    ensures ok { IfOk result (λ lines. lines.items
-        ≡ line_of (records_of program.entry.listing [] (zero_coins program.entry.listing))
-        ++ line_of (replicate targets false)) }
+    ensures ok { IfOk result (λ lines. program_output None [] program.entry.listing
+        ≡ Ok (done lines.items)) }
     ensures err { IfErr result (λ e. e ≡ memory_fault) }
 {
+    let targets = program.target_count();
     let records = noiseless_records(alloc, &program)?;
     drop(program);
     lines_without_events(alloc, &records, targets)

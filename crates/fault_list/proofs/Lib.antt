@@ -1,6 +1,5 @@
 pub mod TermLemmas
 pub mod PutLemmas
-pub mod ProbabilityLemmas
 pub mod CounterLemmas
 pub mod NameLemmas
 pub mod FactorLemmas

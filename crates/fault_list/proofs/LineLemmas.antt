@@ -3,9 +3,8 @@ use Rattle.std.proofs.Common.{◌≡◌, ℕ, ◌-◌, ◌≤◌, length, drop, 
 use Rattle.std.specs.List.{flat_map, range_with_len}
 use Rattle.step_model.specs.Listing.{Listing}
 use Rattle.step_model.specs.WellFormed.{IsWellFormed, faults_named}
-use Rattle.programs.specs.Kept.{KeptProgram}
-use Rattle.programs.specs.Walks.{Walked}
-use Rattle.programs.specs.Found.{faults_left}
+use Rattle.circuit_walk.specs.Found.{faults_left}
+use Rattle.circuit_walk.specs.Programs.{KeptProgram, Walked}
 use Rattle.fault_list.specs.FaultLines.{fault_line, fault_lines}
 
 pub left_at_start : (program : KeptProgram) (walk : Walked) → IsWellFormed program.listing → walk.program ≡ program → walk.place ≡ 0 → faults_left walk ≡ range_with_len 0 (length program.listing.faults - 0)

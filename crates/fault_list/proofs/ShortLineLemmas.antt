@@ -1,5 +1,5 @@
 -- The word of letters at ascending qubits is their factors in their order.
-use Rattle.std.proofs.Common.{◌≡◌, ◌≢◌, ℕ, suc, inl, inr, ◌+◌, ◌-◌, ◌<◌, ◌≤◌, ◌^◌, true, false, List, [], ◌∷◌, ◌++◌, length, drop, refl, sym, ap, ap₂, ◌∙◌, arith}
+use Rattle.std.proofs.Common.{◌≡◌, ◌≢◌, ℕ, suc, inl, inr, ◌+◌, ◌-◌, ◌<◌, ◌≤◌, ◌^◌, true, false, List, [], ◌∷◌, ◌++◌, length, drop, get_or, refl, sym, ap, ap₂, ◌∙◌, arith}
 use Rattle.std.specs.Prelude.{Bool, codes, decimal, not, map, ◌⊎◌, if◌then◌else◌}
 use Rattle.std.specs.List.{flat_map, range_with_len}
 use Rattle.std.proofs.lemmas.Bool.{not-true, not-false}
@@ -21,7 +21,13 @@ use Rattle.fault_list.specs.FaultLines.{factor_text, factor_at, factors, product
 use Rattle.fault_list.specs.private.TermLetters.{letter_in, is_ordered, starred_factors}
 use Rattle.step_model.proofs.RangeLemmas.{range-append}
 use Rattle.fault_list.proofs.FactorLemmas.{none_among}
-use Rattle.fault_list.proofs.TermLemmas.{letter_at-word, no_term, term_at}
+use Rattle.fault_list.proofs.TermLemmas.{letter_at-word}
+
+abbrev no_term : Term
+no_term = record { qubit = 0; letter = I }
+
+abbrev pub term_at : List Term → ℕ → Term
+term_at terms i = get_or terms i no_term
 
 -- what the test says of the first one
 pub record IsFirst (from : ℕ) (term : Term) (terms : List Term) : Type 0 where

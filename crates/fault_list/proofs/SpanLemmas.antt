@@ -1,7 +1,8 @@
 -- The factors that terms make at successive qubits are those of their word there.
-use Rattle.std.proofs.Common.{◌≡◌, ℕ, zero, suc, ◌+◌, ◌<◌, ◌≤◌, List, [], ◌∷◌, ◌++◌, length, get_or, refl, ap, ap₂, ◌∙◌, arith}
+use Rattle.std.proofs.Common.{◌≡◌, ℕ, zero, suc, ◌+◌, ◌<◌, ◌≤◌, List, [], ◌∷◌, ◌++◌, length, get_or, refl, sym, ap, ap₂, subst, ◌∙◌, arith}
 use Rattle.std.specs.Prelude.{All, ◌⊎◌}
 use Rattle.std.specs.List.{flat_map, range_with_len}
+use Rattle.std.proofs.lemmas.List.Elements.{All-cons}
 use Rattle.pauli_word.specs.declared.letter.Letter.{Letter}
 use Rattle.pauli_word.specs.declared.letter.Letter.TheVariants.{I}
 use Rattle.pauli_word.specs.Words.{letter_at}
@@ -29,6 +30,12 @@ gathered_factors terms q (a ∷ letters) are =
 -- no term stands between these two qubits
 abbrev pub NoneBetween : List Term → ℕ → ℕ → Type 0
 NoneBetween terms from next = All (λ term. (term.qubit < from) ⊎ (next ≤ term.qubit)) terms
+
+-- a term more that doesn't stand there
+pub none_more : (term : Term) (rest left : List Term) (from next : ℕ) → left ≡ term ∷ rest → (term.qubit < from) ⊎ (next ≤ term.qubit) → NoneBetween rest from next → NoneBetween left from next
+none_more term rest left from next parts away others =
+    subst (λ ts. NoneBetween ts from next) (sym parts)
+    (All-cons (λ (t : Term). (t.qubit < from) ⊎ (next ≤ t.qubit)) term rest away others)
 
 factors_in_word : (n : ℕ) (terms : List Term) (q span : ℕ) → TermsFit n terms → q + span ≤ n → flat_map (factor_at (word_of_terms n terms)) (range_with_len q span) ≡ term_factors terms q span
 factors_in_word n terms q zero fit within = refl

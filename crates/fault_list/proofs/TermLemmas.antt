@@ -1,8 +1,8 @@
 -- The word that letters at qubits make, qubit by qubit.
-use Rattle.std.proofs.Common.{◌≡◌, ◌≢◌, ℕ, inl, inr, ◌+◌, ◌<◌, ◌≤◌, List, [], ◌∷◌, length, get_or, drop, refl, sym, ap, ap₂, ◌∙◌, arith}
+use Rattle.std.proofs.Common.{◌≡◌, ◌≢◌, ℕ, inl, inr, ◌<◌, ◌≤◌, List, [], ◌∷◌, get_or, refl, sym, ap, ap₂, ◌∙◌, arith}
 use Rattle.std.specs.Prelude.{if◌then◌else◌, All, ◌⊎◌}
 use Rattle.std.proofs.lemmas.Bool.Decides.{eqb_tells}
-use Rattle.std.proofs.lemmas.List.{length-replicate, get_or-replicate, get_or-set_same, get_or-set_other, drop_more}
+use Rattle.std.proofs.lemmas.List.{length-replicate, get_or-replicate, get_or-set_same, get_or-set_other}
 use Rattle.std.proofs.lemmas.List.Elements.{All-head, All-tail}
 use Rattle.pauli_word.specs.declared.letter.Letter.{Letter}
 use Rattle.pauli_word.specs.declared.letter.Letter.TheVariants.{I}
@@ -17,12 +17,6 @@ use Rattle.step_model.specs.Listing.{word_of_terms}
 use Rattle.step_model.specs.WellFormed.{TermsFit}
 use Rattle.step_model.proofs.StepNumbers.{length-word_of_terms}
 use Rattle.fault_list.specs.private.TermLetters.{letter_here, letter_in}
-
-abbrev pub no_term : Term
-no_term = record { qubit = 0; letter = I }
-
-abbrev pub term_at : List Term → ℕ → Term
-term_at terms i = get_or terms i no_term
 
 letter_at-lone_letter : (n : ℕ) (term : Term) (q : ℕ) → term.qubit < n → q < n → letter_at (lone_letter n term.qubit term.letter) q ≡ letter_here term q
 letter_at-lone_letter n term q inside below = elim (eqb_tells term.qubit q) [
@@ -63,25 +57,18 @@ none_between terms from next q lowest after below =
       | inr past ↦ omega (arith, past, below, e)
     ])
 
--- the letter so far, times that of the terms from i on, stays the same by one term more
-pub letter_more : (terms : List Term) (i q : ℕ) (letter : Letter) → i < length terms → letter_product letter (letter_in (drop i terms) q) ≡ letter_in terms q → letter_product (letter_product letter (letter_here (term_at terms i) q)) (letter_in (drop (i + 1) terms) q) ≡ letter_in terms q
-letter_more terms i q letter more so_far =
-    letter_product_assoc letter (letter_here (term_at terms i) q) (letter_in (drop (i + 1) terms) q)
-    ∙ (ap (λ ts. letter_product letter (letter_in ts q)) (sym (drop_more terms i no_term more))
+-- the letter so far, times that of the terms that are left, stays the same by one term more
+pub letter_more : (term : Term) (terms left : List Term) (q : ℕ) (letter all : Letter) → left ≡ term ∷ terms → letter_product letter (letter_in left q) ≡ all → letter_product (letter_product letter (letter_here term q)) (letter_in terms q) ≡ all
+letter_more term terms left q letter all parts so_far =
+    letter_product_assoc letter (letter_here term q) (letter_in terms q)
+    ∙ (ap (λ ts. letter_product letter (letter_in ts q)) (sym parts)
     ∙ so_far)
 
 -- two letters at qubits make one word, whichever comes first
-two_swapped : (n : ℕ) (a b : Term) → word_of_terms n (b ∷ a ∷ []) ≡ word_of_terms n (a ∷ b ∷ [])
+pub two_swapped : (n : ℕ) (a b : Term) → word_of_terms n (b ∷ a ∷ []) ≡ word_of_terms n (a ∷ b ∷ [])
 two_swapped n a b =
     let first = lone_letter n a.qubit a.letter in
     let second = lone_letter n b.qubit b.letter in
     sym (letters_product_assoc second first (no_letters n))
     ∙ (ap (λ w. letters_product w (no_letters n)) (letters_product_comm second first)
     ∙ letters_product_assoc first second (no_letters n))
-
-pub word_swapped : (n : ℕ) (terms : List Term) → 2 ≤ length terms → length terms < 3
-    → word_of_terms n (term_at terms 1 ∷ term_at terms 0 ∷ []) ≡ word_of_terms n terms
-word_swapped n [] some few = absurd (omega (arith, some))
-word_swapped n (a ∷ []) some few = absurd (omega (arith, some))
-word_swapped n (a ∷ b ∷ []) some few = two_swapped n a b
-word_swapped n (a ∷ b ∷ c ∷ terms) some few = absurd (omega (arith, few))

@@ -1,23 +1,28 @@
 //! The letters that terms make at successive qubits.
 ghost use Rattle.std.specs.Prelude.{◌≡◌, ◌<◌, ◌+◌, ◌∷◌, ℕ, [], length, not, slice_index_or};
+ghost use Rattle.circuit_walk.specs.Letters.{AreSmall, letters_in};
 ghost use Rattle.pauli_word.specs.declared.letter.Letter.TheVariants.{I};
 ghost use Rattle.pauli_word.specs.Letters.{letter_product};
 ghost use Rattle.step_model.specs.Listing.{is_I};
 ghost use Rattle.fault_list.specs.FaultLines.{letter_text};
 ghost use Rattle.fault_list.specs.private.TermLetters.{letter_here, letter_in};
 
+use circuit_walk::Letters;
 use pauli_word::Letter;
 use step_model::Term;
 
 /// Makes each letter the product of those that terms have at its qubit; the first is that of this qubit.
-pub(crate) fn gather(letters: &mut [Letter], terms: &[Term], from: u32)
+pub(crate) fn gather(letters: &mut [Letter], terms: Letters<'_>, from: u32)
+    requires { AreSmall terms }
     ensures { (k : ℕ)
         → k < length letters.old
-        → slice_index_or letters.new k I ≡ letter_in terms.now (from + k) }
+        → slice_index_or letters.new k I ≡ letter_in (letters_in terms.entry) (from + k) }
 {
     letters.fill(Letter::I);
-    for term in terms {
-        multiply(letters, from, *term);
+    let mut left = terms;
+    while let Some((term, rest)) = left.split_first() {
+        multiply(letters, from, term);
+        left = rest;
     }
 }
 

@@ -1,7 +1,7 @@
 //! Short lines, put into a buffer one after another.
-ghost use Rattle.std.specs.Prelude.{◌≡◌, ℕ, ◌≤◌, ◌+◌, ◌*◌, ◌++◌, None, codes, decimal, length, take, IfSome};
-ghost use Rattle.programs.specs.Found.{IsFaultOf};
-ghost use Rattle.programs.specs.Entries.{TellsChances};
+ghost use Rattle.std.specs.Prelude.{◌≡◌, ℕ, ◌≤◌, ◌+◌, ◌*◌, ◌∷◌, ◌++◌, [], None, codes, decimal, length, take, IfSome};
+ghost use Rattle.circuit_walk.specs.Found.{IsFaultOf};
+ghost use Rattle.circuit_walk.specs.Letters.{AreSmall, letters_in};
 ghost use Rattle.step_model.specs.Listing.{effect_at, word_of_terms};
 ghost use Rattle.step_model.specs.WellFormed.{TermsFit};
 ghost use Rattle.fault_list.specs.FaultLines.{effect_text, factor_text, fault_line, record_text, word_text};
@@ -14,7 +14,8 @@ use crate::letters::acts;
 use crate::probability::Probability;
 use crate::put::{put_byte, put_text};
 use crate::qubit_names::QubitNames;
-use programs::{FoundFault, Program};
+use circuit_walk::{FoundFault, Letters, Program};
+use pauli_word::Letter;
 use std::alloc::Allocator;
 use step_model::Term;
 
@@ -39,7 +40,7 @@ pub(crate) struct KeptTexts<'t, 'a> {
 impl<'t, 'a> KeptTexts<'t, 'a> {
     /// Before the first line of a program.
     pub(crate) fn new<A: Allocator + Copy>(program: &'t Program<'a, A>) -> Self
-        ensures { TellsChances program.now.kept result.probability.table }
+        ensures { result.probability.chances ≡ program.now.chances }
     {
         KeptTexts {
             number: Counter::new(),
@@ -57,19 +58,19 @@ pub(crate) fn put_line<'t, 'a, A: Allocator + Copy>(
     at: usize,
     texts: &mut KeptTexts<'t, 'a>,
     program: &Program<'a, A>,
-    fault: FoundFault,
+    fault: FoundFault<'_>,
 ) -> Option<usize>
     requires room { at + LINE ≤ length buffer.old }
     requires fault { IsFaultOf program.now fault }
-    requires texts { TellsChances program.now.kept texts.old.probability.table }
-    ensures same { texts.new.probability.table ≡ texts.old.probability.table }
+    requires texts { texts.old.probability.chances ≡ program.now.chances }
+    ensures same { texts.new.probability.chances ≡ texts.old.probability.chances }
     ensures within { IfSome result (λ end. end ≤ at + LINE) }
     ensures written { IfSome result (λ end. take end buffer.new
-        ≡ take at buffer.old ++ fault_line program.now.listing fault.number) }
+        ≡ take at buffer.old ++ fault_line program.now.listing fault.entry.number) }
     ensures kept { result ≡ None → take at buffer.new ≡ take at buffer.old }
 {
     let end = texts.number.put(buffer, at, fault.number);
-    let end = texts.probability.put(buffer, end, fault.entry)?;
+    let end = texts.probability.put(buffer, end, fault.chance)?;
     let end = put_effect(buffer, end, texts, program, fault)?;
     Some(put_byte(buffer, end, b'\n'))
 }
@@ -81,19 +82,20 @@ fn put_effect<'t, 'a, A: Allocator + Copy>(
     at: usize,
     texts: &mut KeptTexts<'t, 'a>,
     program: &Program<'a, A>,
-    fault: FoundFault,
+    fault: FoundFault<'_>,
 ) -> Option<usize>
     requires room { at + WORD + 8 ≤ length buffer.old }
     requires fault { IsFaultOf program.now fault }
-    ensures same { texts.new.probability.table ≡ texts.old.probability.table }
+    ensures same { texts.new.probability.chances ≡ texts.old.probability.chances }
     ensures put { Puts WORD at
-        (effect_text program.now.listing.qubits (effect_at program.now.listing fault.number))
+        (effect_text program.now.listing.qubits
+        (effect_at program.now.listing fault.entry.number))
         buffer.old buffer.new result }
 {
     program.well_formed();
     match fault.flips {
         Some(r) => Some(put_record(buffer, at, &mut texts.record, r)),
-        None => put_word(buffer, at, &texts.names, program.entry_terms(fault.entry)),
+        None => put_word(buffer, at, &texts.names, fault.letters),
     }
 }
 
@@ -108,33 +110,93 @@ fn put_record(buffer: &mut [u8], at: usize, record: &mut Counter, r: u32) -> usi
     put_byte(buffer, end, b']')
 }
 
-// Puts the word of some terms. Two at descending qubits are exchanged first. One or two, as most words have, are written
-// with no loop.
+// Puts the word of some terms. One or two, as most words have, are written with no loop.
 #[inline(always)]
-fn put_word(buffer: &mut [u8], at: usize, names: &QubitNames, terms: &[Term]) -> Option<usize>
-    requires { at + WORD + 8 ≤ length buffer.old }
-    ensures { (qubits : ℕ) → TermsFit qubits terms.now
-        → Puts WORD at (word_text (word_of_terms qubits terms.now)) buffer.old buffer.new result }
+fn put_word(buffer: &mut [u8], at: usize, names: &QubitNames, terms: Letters<'_>) -> Option<usize>
+    requires room { at + WORD + 8 ≤ length buffer.old }
+    requires small { AreSmall terms }
+    ensures { (qubits : ℕ) → TermsFit qubits (letters_in terms.entry)
+        → Puts WORD at (word_text (word_of_terms qubits (letters_in terms.entry)))
+        buffer.old buffer.new result }
 {
-    match terms {
-        [only] => put_ordered(buffer, at, names, &[*only]),
-        [first, second] if second.qubit < first.qubit => {
-            put_ordered(buffer, at, names, &[*second, *first])
-        }
-        [first, second] => put_ordered(buffer, at, names, &[*first, *second]),
-        _ => put_ordered(buffer, at, names, terms),
+    let (first, more) = terms.split_first()?;
+    match more.split_first() {
+        None => put_ordered(buffer, at, names, &[first]),
+        Some((second, rest)) => match rest.split_first() {
+            None => put_two(buffer, at, names, first, second),
+            Some(_) => put_more(buffer, at, names, terms),
+        },
     }
 }
 
-// Puts the word of terms at ascending qubits. It answers none where there are no terms or many, where their qubits
-// don't ascend, or where one of them is I.
+// The same of two terms. Those at descending qubits are exchanged first.
+#[inline(always)]
+fn put_two(
+    buffer: &mut [u8],
+    at: usize,
+    names: &QubitNames,
+    first: Term,
+    second: Term,
+) -> Option<usize>
+    requires { at + WORD + 8 ≤ length buffer.old }
+    ensures { (qubits : ℕ) → TermsFit qubits (first ∷ second ∷ [])
+        → Puts WORD at (word_text (word_of_terms qubits (first ∷ second ∷ [])))
+        buffer.old buffer.new result }
+{
+    if second.qubit < first.qubit {
+        put_ordered(buffer, at, names, &[second, first])
+    } else {
+        put_ordered(buffer, at, names, &[first, second])
+    }
+}
+
+// The same of more of them, by a copy. It answers none too where they are many.
+#[inline(never)]
+fn put_more(buffer: &mut [u8], at: usize, names: &QubitNames, terms: Letters<'_>) -> Option<usize>
+    requires room { at + WORD + 8 ≤ length buffer.old }
+    requires small { AreSmall terms }
+    ensures { (qubits : ℕ) → TermsFit qubits (letters_in terms.entry)
+        → Puts WORD at (word_text (word_of_terms qubits (letters_in terms.entry)))
+        buffer.old buffer.new result }
+{
+    let none = Term {
+        qubit: 0,
+        letter: Letter::I,
+    };
+    let mut copies = [none; SHORT_TERMS];
+    let count = copy_terms(&mut copies, terms)?;
+    put_ordered(buffer, at, names, &copies[..count])
+}
+
+// Copies terms to the start of a buffer, and answers how many they are; none where there is no room for all.
+fn copy_terms(copies: &mut [Term], terms: Letters<'_>) -> Option<usize>
+    requires { AreSmall terms }
+    ensures within { IfSome result (λ count. count ≤ length copies.old) }
+    ensures copied { IfSome result (λ count. take count copies.new ≡ letters_in terms.entry) }
+{
+    let mut count = 0;
+    let mut left = terms;
+    while let Some((term, rest)) = left.split_first() {
+        if count == copies.len() {
+            return None;
+        }
+        copies[count] = term;
+        count += 1;
+        left = rest;
+    }
+    Some(count)
+}
+
+// Puts the word of terms at ascending qubits. It answers none where there are no terms, where their qubits don't ascend,
+// or where one of them is I.
 #[inline(always)]
 fn put_ordered(buffer: &mut [u8], at: usize, names: &QubitNames, terms: &[Term]) -> Option<usize>
-    requires { at + WORD + 8 ≤ length buffer.old }
+    requires room { at + WORD + 8 ≤ length buffer.old }
+    requires few { length terms.now ≤ SHORT_TERMS }
     ensures { (qubits : ℕ) → TermsFit qubits terms.now
         → Puts WORD at (word_text (word_of_terms qubits terms.now)) buffer.old buffer.new result }
 {
-    if terms.len() > SHORT_TERMS || !is_ordered(terms) {
+    if !is_ordered(terms) {
         return None;
     }
     if let [first, more @ ..] = terms {

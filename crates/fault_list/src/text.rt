@@ -4,8 +4,7 @@ ghost use Rattle.step_model.specs.Ends.{Takes, TakesBeginning, write_failures};
 ghost use Rattle.step_model.specs.Faults.{write_fault};
 ghost use Rattle.step_model.specs.Listing.{effect_at};
 ghost use Rattle.step_model.specs.Pushed.{Pushes};
-ghost use Rattle.programs.specs.Entries.{TellsChances};
-ghost use Rattle.programs.specs.Found.{IsFaultOf};
+ghost use Rattle.circuit_walk.specs.Found.{IsFaultOf};
 ghost use Rattle.fault_list.specs.FaultLines.{record_text, effect_text, fault_line, fault_lines, coins_line, list_text};
 ghost use Rattle.fault_list.specs.private.HeldLines.{PushesSome};
 
@@ -13,9 +12,9 @@ use crate::blocks::ROOM as BLOCK_ROOM;
 use crate::qubit_names::QubitNames;
 use crate::short_lines::{KeptTexts, put_line};
 use crate::word::{SPAN, write_word};
+use circuit_walk::{FoundFault, Program, Walk, next_fault};
 use itoa::Buffer;
 use pauli_word::Letter;
-use programs::{FoundFault, Program, Walk, next_fault};
 use std::alloc::Allocator;
 use step_model::{Fault, Pieces, Sink};
 
@@ -86,16 +85,16 @@ fn write_line<'t, 'a, A: Allocator + Copy, W: Sink>(
     desk: &mut Desk<'t, 'a>,
     held: usize,
     program: &Program<'a, A>,
-    fault: FoundFault,
+    fault: FoundFault<'_>,
 ) -> usize
     requires held { held ≤ LAST_LINE }
     requires fault { IsFaultOf program.now fault }
-    requires texts { TellsChances program.now.kept desk.old.texts.probability.table }
+    requires texts { desk.old.texts.probability.chances ≡ program.now.chances }
     ensures held { result ≤ LAST_LINE }
-    ensures texts { desk.new.texts.probability.table ≡ desk.old.texts.probability.table }
+    ensures texts { desk.new.texts.probability.chances ≡ desk.old.texts.probability.chances }
     ensures pushed { PushesSome W.taken W.failures sink.old sink.new out.old out.new
         (take held desk.old.lines) (take result desk.new.lines)
-        (fault_line program.now.listing fault.number) }
+        (fault_line program.now.listing fault.entry.number) }
 {
     match put_line(&mut desk.lines, held, &mut desk.texts, program, fault) {
         Some(end) if end <= LAST_LINE => end,
@@ -116,16 +115,16 @@ fn write_long_line<'t, 'a, A: Allocator + Copy, W: Sink>(
     sink: &mut W,
     desk: &mut Desk<'t, 'a>,
     program: &Program<'a, A>,
-    fault: FoundFault,
+    fault: FoundFault<'_>,
 )
     requires { IsFaultOf program.now fault }
-    ensures texts { desk.new.texts.probability.table ≡ desk.old.texts.probability.table }
+    ensures texts { desk.new.texts.probability.chances ≡ desk.old.texts.probability.chances }
     ensures pushed { Pushes W.taken W.failures sink.old sink.new out.old out.new
-        (fault_line program.now.listing fault.number) }
+        (fault_line program.now.listing fault.entry.number) }
 {
     write_number(out, sink, fault.number);
     out.push(sink, b" ");
-    out.push(sink, program.entry_text(fault.entry));
+    out.push(sink, program.chance_text(fault.chance));
     out.push(sink, b" ");
     write_effect(
         out,
@@ -147,12 +146,13 @@ fn write_effect<'a, A: Allocator + Copy, W: Sink>(
     names: &QubitNames,
     letters: &mut [Letter; SPAN],
     program: &Program<'a, A>,
-    fault: FoundFault,
+    fault: FoundFault<'_>,
 )
     requires room { BLOCK_ROOM ≤ length buffer.old }
     requires fault { IsFaultOf program.now fault }
     ensures { Pushes W.taken W.failures sink.old sink.new out.old out.new
-        (effect_text program.now.listing.qubits (effect_at program.now.listing fault.number)) }
+        (effect_text program.now.listing.qubits
+        (effect_at program.now.listing fault.entry.number)) }
 {
     program.well_formed();
     match fault.flips {
@@ -165,7 +165,7 @@ fn write_effect<'a, A: Allocator + Copy, W: Sink>(
                 names,
                 letters,
                 program.qubits(),
-                program.entry_terms(fault.entry),
+                fault.letters,
             )
         }
     }

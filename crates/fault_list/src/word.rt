@@ -1,5 +1,6 @@
-//! The text of a Pauli word that is kept as terms, letters at qubits, in any order and a qubit more than once.
-ghost use Rattle.std.specs.Prelude.{◌≡◌, ◌<◌, ◌≤◌, ◌+◌, ◌⊎◌, ◌&&◌, All, length};
+//! The text of a Pauli word that is lent as terms, letters at qubits, in any order and a qubit more than once.
+ghost use Rattle.std.specs.Prelude.{◌≡◌, ◌<◌, ◌≤◌, ◌+◌, ◌⊎◌, ◌&&◌, All, length, min};
+ghost use Rattle.circuit_walk.specs.Letters.{AreSmall, letters_in};
 ghost use Rattle.step_model.specs.Pushed.{Pushes};
 ghost use Rattle.step_model.specs.Listing.{word_of_terms};
 ghost use Rattle.step_model.specs.WellFormed.{TermsFit};
@@ -9,8 +10,9 @@ ghost use Rattle.fault_list.specs.private.FactorTexts.{is_none, joined_on, term_
 use crate::blocks::{ROOM, write_letters};
 use crate::letters::gather;
 use crate::qubit_names::QubitNames;
+use circuit_walk::Letters;
 use pauli_word::Letter;
-use step_model::{Pieces, Sink, Term};
+use step_model::{Pieces, Sink};
 
 /// How many qubits are put in order at once at most. A circuit that is read from a text has no more.
 pub(crate) const SPAN: usize = 4096;
@@ -25,17 +27,19 @@ pub(crate) fn write_word<W: Sink>(
     names: &QubitNames,
     letters: &mut [Letter; SPAN],
     qubits: u32,
-    terms: &[Term],
+    terms: Letters<'_>,
 )
     requires room { ROOM ≤ length buffer.old }
-    requires terms { TermsFit qubits terms.now }
+    requires small { AreSmall terms }
+    requires terms { TermsFit qubits (letters_in terms) }
     ensures { Pushes W.taken W.failures sink.old sink.new out.old out.new
-        (word_text (word_of_terms qubits terms.now)) }
+        (word_text (word_of_terms qubits (letters_in terms.entry))) }
 {
+    let count = count_terms(terms);
     let mut first = true;
     let mut from = lowest_from(terms, 0, qubits);
     while from < qubits {
-        let span = span_of(terms.len(), qubits - from);
+        let span = span_of(count, qubits - from);
         let letters = &mut letters[..span];
         first = write_span(out, sink, buffer, names, letters, terms, from, first);
         from = lowest_from(terms, from + span as u32, qubits);
@@ -45,18 +49,39 @@ pub(crate) fn write_word<W: Sink>(
     }
 }
 
+// How many terms there are, counted as far as a span is long.
+fn count_terms(terms: Letters<'_>) -> usize
+    requires { AreSmall terms }
+    ensures { result ≡ min (length (letters_in terms.entry)) SPAN }
+{
+    let mut count = 0;
+    let mut left = terms;
+    while count < SPAN {
+        let Some((_, rest)) = left.split_first() else {
+            return count;
+        };
+        count += 1;
+        left = rest;
+    }
+    count
+}
+
 // The lowest qubit from this one on at which there is a term; the number of qubits where there is none.
-fn lowest_from(terms: &[Term], from: u32, qubits: u32) -> u32
-    requires { from ≤ qubits }
+fn lowest_from(terms: Letters<'_>, from: u32, qubits: u32) -> u32
+    requires small { AreSmall terms }
+    requires from { from ≤ qubits }
     ensures from { from ≤ result }
     ensures within { result ≤ qubits }
-    ensures lowest { All (λ term. (term.qubit < from) ⊎ (result ≤ term.qubit)) terms.now }
+    ensures lowest { All (λ term. (term.qubit < from) ⊎ (result ≤ term.qubit))
+        (letters_in terms.entry) }
 {
     let mut lowest = qubits;
-    for term in terms {
+    let mut left = terms;
+    while let Some((term, rest)) = left.split_first() {
         if from <= term.qubit && term.qubit < lowest {
             lowest = term.qubit;
         }
+        left = rest;
     }
     lowest
 }
@@ -79,15 +104,17 @@ fn write_span<W: Sink>(
     buffer: &mut [u8],
     names: &QubitNames,
     letters: &mut [Letter],
-    terms: &[Term],
+    terms: Letters<'_>,
     from: u32,
     first: bool,
 ) -> bool
     requires room { ROOM ≤ length buffer.old }
+    requires small { AreSmall terms }
     requires fits { from + length letters.old ≤ u32.MAX }
-    ensures first { result ≡ (first && is_none (term_factors terms.now from (length letters.old))) }
+    ensures first { result
+        ≡ (first && is_none (term_factors (letters_in terms.entry) from (length letters.old))) }
     ensures pushed { Pushes W.taken W.failures sink.old sink.new out.old out.new
-        (joined_on first (term_factors terms.now from (length letters.old))) }
+        (joined_on first (term_factors (letters_in terms.entry) from (length letters.old))) }
 {
     gather(letters, terms, from);
     write_letters(out, sink, buffer, names, letters, from, first)

@@ -1,13 +1,13 @@
 -- A walk from fault to fault, and the bounds of those behind it.
 use Rattle.std.proofs.Common.{◌≡◌, ℕ, ◌+◌, ◌-◌, ◌<◌, List, [], ◌∷◌, ◌++◌, length, take, drop, refl, sym, ap, ap₂, subst, ◌∙◌, arith}
 use Rattle.std.specs.List.{range_with_len}
+use Rattle.step_model.specs.Chances.{chance_at}
 use Rattle.step_model.specs.Listing.{fault_at}
 use Rattle.step_model.specs.WellFormed.{IsWellFormed, faults_named}
-use Rattle.programs.specs.Kept.{KeptProgram, kept_at}
-use Rattle.programs.specs.Found.{IsFaultOf, faults_left}
-use Rattle.programs.specs.Walks.{Walked}
-use Rattle.programs.specs.declared.fault_walk.FoundFault.{FoundFault}
-use Rattle.programs.proofs.FaultOrders.{takes_number, none_left_of}
+use Rattle.circuit_walk.specs.Found.{IsFaultOf, faults_left}
+use Rattle.circuit_walk.specs.Programs.{KeptProgram, Walked}
+use Rattle.circuit_walk.specs.declared.fault_walk.FoundFault.{FoundFault}
+use Rattle.circuit_walk.proofs.FaultOrders.{takes_number, none_left_of}
 use Rattle.forward_sim.specs.Drawn.{bounds_of}
 use Rattle.forward_sim.proofs.BoundLemmas.{bounds_all, bounds_more}
 
@@ -29,9 +29,6 @@ none_behind kept walk well_formed same first =
     }
 
 module _ (kept : KeptProgram) (walk : Walked) (n : ℕ) (bounds : List ℕ) (behind : BoundsBehind kept walk n bounds) where
-  pub walk_fits : IsWellFormed kept.listing → IsWellFormed walk.program.listing
-  walk_fits = subst (λ (p : KeptProgram). IsWellFormed p.listing) (sym behind.program)
-
   -- where no fault is left
   pub all_behind : faults_left walk ≡ [] → bounds ≡ bounds_of kept.listing
   all_behind none =
@@ -42,10 +39,10 @@ module _ (kept : KeptProgram) (walk : Walked) (n : ℕ) (bounds : List ℕ) (beh
     found_in : IsFaultOf kept fault
     found_in = subst (λ (p : KeptProgram). IsFaultOf p fault) behind.program found
 
-    pub entry_fits : fault.entry < length kept.kept
-    entry_fits = found_in.entry
+    pub chance_fits : fault.chance < length kept.chances
+    chance_fits = found_in.chance
 
-    pub one_more_behind : (bound : ℕ) → after.program ≡ walk.program → bound ≡ (kept_at kept fault.entry).bound → BoundsBehind kept after (n + 1) (bounds ++ bound ∷ [])
+    pub one_more_behind : (bound : ℕ) → after.program ≡ walk.program → bound ≡ (chance_at kept.chances fault.chance).bound → BoundsBehind kept after (n + 1) (bounds ++ bound ∷ [])
     one_more_behind bound same is =
         let takes = takes_number n (length kept.listing.faults) fault.number (faults_left after) (sym behind.left ∙ next) in
         let here = is ∙ (found_in.bound ∙ ap (λ k. (fault_at kept.listing k).bound) takes.first) in

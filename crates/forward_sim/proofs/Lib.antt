@@ -10,6 +10,7 @@ pub mod SameStates
 pub mod RunLoops
 pub mod RunRecords
 pub mod WalkedSteps
+pub mod StepLetters
 pub mod TermWords
 pub mod WordsSaid
 pub mod RunLemmas

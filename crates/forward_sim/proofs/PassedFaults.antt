@@ -1,8 +1,7 @@
 -- Faults that a walk passes over at once.
 use Rattle.std.proofs.Common.{◌≡◌, ℕ, zero, suc, ◌+◌, ◌<◌, ◌≤◌, List, [], ◌∷◌, take, sym, ap, subst, ◌∙◌, arith, length-append}
 use Rattle.std.specs.Prelude.{Some, slice_get}
-use Rattle.programs.specs.Turns.{faults_before}
-use Rattle.programs.specs.Walks.{ArePassed}
+use Rattle.circuit_walk.specs.Walks.{ArePassed, faults_before}
 use Rattle.step_model.specs.Listing.{ListedStep, Fault}
 use Rattle.step_model.specs.WellFormed.{faults_named, step_faults}
 

@@ -2,9 +2,8 @@
 use Rattle.std.proofs.Common.{◌≡◌, ℕ, ◌+◌, ◌≤◌, Bool, false, List, refl, sym, ap, subst, arith, [], Option}
 use Rattle.std.specs.Prelude.{Some, slice_get, ◌&&◌}
 use Rattle.pauli_word.specs.Words.{anticommute, with_sign_changed}
-use Rattle.programs.specs.Kept.{KeptProgram}
-use Rattle.programs.specs.Turns.{faults_before}
-use Rattle.programs.specs.Walks.{ArePassed, Walked}
+use Rattle.circuit_walk.specs.Programs.{KeptProgram, Walked}
+use Rattle.circuit_walk.specs.Walks.{ArePassed, faults_before}
 use Rattle.step_model.specs.declared.step.Term.{Term}
 use Rattle.step_model.specs.Listing.{Listing, ListedStep, Fault, fault_word}
 use Rattle.step_model.specs.Runs.{RunState, happens, next}

@@ -14,7 +14,7 @@ use Rattle.step_model.specs.Runs.{RunState, start, next, next_coin, after_collap
 use Rattle.step_model.specs.WellFormed.{IsWellFormed, step_fits}
 use Rattle.step_model.proofs.StateIsGroup.{length-measured}
 use Rattle.step_model.proofs.StepNumbers.{length-word_of_terms}
-use Rattle.programs.specs.Listed.{measured}
+use Rattle.circuit_walk.specs.Steps.{measured}
 use Rattle.forward_sim.specs.private.Kept.{StepKeeps}
 use Rattle.forward_sim.specs.private.Machines.{Running, qubit_count, run_of, ended, ComesTo}
 use Rattle.forward_sim.specs.References.{IsEntry, AreEntries}

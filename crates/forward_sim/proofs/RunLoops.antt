@@ -3,9 +3,8 @@ use Rattle.std.proofs.Common.{◌≡◌, ℕ, Bool, List, length, sym, ◌∙◌
 use Rattle.step_model.specs.Listing.{Listing}
 use Rattle.step_model.specs.Runs.{RunState, next, start}
 use Rattle.step_model.specs.WellFormed.{IsWellFormed}
-use Rattle.programs.specs.declared.step.Step.{Step}
-use Rattle.programs.specs.Kept.{KeptProgram}
-use Rattle.programs.specs.Walks.{Walked}
+use Rattle.circuit_walk.specs.declared.step.Step.{Step}
+use Rattle.circuit_walk.specs.Programs.{KeptProgram, Walked}
 use Rattle.forward_sim.specs.private.Machines.{CanTake}
 use Rattle.forward_sim.specs.SameRuns.{IsSameRun}
 use Rattle.forward_sim.proofs.RunRecords.{MakesRest, rest_after_step, rest_at_start, step_is_next}

@@ -4,11 +4,10 @@ use Rattle.std.specs.Prelude.{slice_get, option_map, if◌then◌else◌}
 use Rattle.std.proofs.lemmas.Bool.{cases_Bool, lt-ltb, ltb-true}
 use Rattle.std.proofs.lemmas.List.{drop_more, drop_all}
 use Rattle.std.proofs.lemmas.Option.{none-some, slice_get_cases, slice_get_within, slice_get-get_or, get_or_from_slice_get}
-use Rattle.programs.specs.declared.step.Step.{Step}
-use Rattle.programs.specs.Kept.{KeptProgram}
-use Rattle.programs.specs.Listed.{listed}
-use Rattle.programs.specs.Named.{IsStepOf}
-use Rattle.programs.specs.Walks.{Walked}
+use Rattle.circuit_walk.specs.declared.step.Step.{Step}
+use Rattle.circuit_walk.specs.Named.{IsStepOf}
+use Rattle.circuit_walk.specs.Programs.{KeptProgram, Walked}
+use Rattle.circuit_walk.specs.Steps.{listed}
 use Rattle.step_model.specs.Listing.{ListedStep, Fault}
 
 -- the step at a place stands first in what is left
@@ -26,24 +25,24 @@ drop-no_step steps place none = elim (slice_get_cases steps place).1 [
 
 -- a step as it is listed
 abbrev pub listed_of : KeptProgram → Step → ListedStep
-listed_of program s = listed program.listing.qubits program.products s
+listed_of program s = listed program.listing.qubits s
 
 -- a walk over a program went over a step
 pub record GoesOver (program : KeptProgram) (old new : Walked) (s : Step) : Type 0 where
   pub named : IsStepOf program s
-  pub here : slice_get program.listing.steps old.place ≡ Some (listed program.listing.qubits program.products s)
-  pub left : drop old.place program.listing.steps ≡ listed program.listing.qubits program.products s ∷ drop new.place program.listing.steps
+  pub here : slice_get program.listing.steps old.place ≡ Some (listed program.listing.qubits s)
+  pub left : drop old.place program.listing.steps ≡ listed program.listing.qubits s ∷ drop new.place program.listing.steps
   pub place : new.place ≡ old.place + 1
   pub program_is : new.program ≡ program
   pub smaller : length program.listing.steps - new.place < length program.listing.steps - old.place
 
 pub goes_over : (program : KeptProgram) (old new : Walked) (s : Step) → old.program ≡ program
-    → option_map (listed old.program.listing.qubits old.program.products) (Some s) ≡ slice_get old.program.listing.steps old.place
+    → option_map (listed old.program.listing.qubits) (Some s) ≡ slice_get old.program.listing.steps old.place
     → IsStepOf old.program s → new.program ≡ old.program
     → new.place ≡ (if nat_lt old.place (length old.program.listing.steps) then old.place + 1 else old.place)
     → GoesOver program old new s
 goes_over program old new s is step named program_is place =
-    let here : slice_get program.listing.steps old.place ≡ Some (listed program.listing.qubits program.products s) = sym (rw is at step) in
+    let here : slice_get program.listing.steps old.place ≡ Some (listed program.listing.qubits s) = sym (rw is at step) in
     let within : old.place < length program.listing.steps = slice_get_within program.listing.steps old.place _ here in
     let inside : nat_lt old.place (length program.listing.steps) ≡ true = lt-ltb old.place (length program.listing.steps) within in
     let next : new.place ≡ old.place + 1 = rw (is, inside) at place in

@@ -5,9 +5,10 @@ ghost use Rattle.step_model.specs.Faults.{memory_fault};
 ghost use Rattle.step_model.specs.Targets.{difference, parity};
 
 use crate::records::Records;
-use programs::Program;
+use circuit_walk::Program;
 use std::alloc::Allocator;
 use step_model::Fault;
+use target_lists::TargetRecords;
 
 /// For each detector, and then for each observable, whether its parity in a run differs from that in a reference run:
 /// detection events, and flips of observables.
@@ -23,10 +24,12 @@ pub fn detections<A: Allocator + Copy>(
         ≡ difference program.now.listing records.now reference.now) }
     ensures err { IfErr result (λ fault. fault ≡ memory_fault) }
 {
-    let targets = program.target_count();
-    let mut answers = Vec::with_capacity(alloc, targets)?;
-    for number in 0..targets {
-        let named = program.target(number);
+    program.well_formed();
+    let targets = TargetRecords::of(alloc, program)?;
+    let count = targets.len();
+    let mut answers = Vec::with_capacity(alloc, count)?;
+    for number in 0..count {
+        let named = targets.get(number);
         answers.push_reserved(differs(named, records, reference));
     }
     Ok(answers)

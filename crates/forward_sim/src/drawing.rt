@@ -3,7 +3,7 @@ ghost use Rattle.std.specs.Prelude.{◌≡◌, ◌+◌, length, IfOk, IfErr, OnO
 ghost use Rattle.step_model.specs.Faults.{memory_fault};
 ghost use Rattle.forward_sim.specs.Drawn.{after_words, bounds_of, drawn_coins, drawn_faults};
 
-use programs::{Program, Walk, next_fault};
+use circuit_walk::{Program, Walk, next_fault};
 use rand_core::utils::NextWord;
 use rand_pcg::Pcg64;
 use std::alloc::{AllocError, Allocator};
@@ -48,7 +48,7 @@ fn fault_bounds<A: Allocator + Copy>(
     let mut bounds = Vec::with_capacity(alloc, program.fault_count() as usize)?;
     let mut walk = Walk::start(program);
     while let Some(fault) = next_fault(&mut walk) {
-        bounds.push_reserved(program.entry_bound(fault.entry));
+        bounds.push_reserved(program.chance_bound(fault.chance));
     }
     Ok(bounds)
 }

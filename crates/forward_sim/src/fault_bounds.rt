@@ -5,7 +5,7 @@ ghost use Rattle.forward_sim.specs.Drawn.{bounds_of};
 
 use crate::runs::{BoundRun, are_short, bound_runs, word_below};
 use crate::sieve::Sieve;
-use programs::{Program, Walk, next_fault};
+use circuit_walk::{Program, Walk, next_fault};
 use std::alloc::{AllocError, Allocator};
 use std::marker::Model;
 
@@ -76,7 +76,7 @@ fn greatest_words<A: Allocator + Copy>(
     let mut words = Vec::with_capacity(alloc, program.fault_count() as usize)?;
     let mut walk = Walk::start(program);
     while let Some(fault) = next_fault(&mut walk) {
-        let bound = program.entry_bound(fault.entry);
+        let bound = program.chance_bound(fault.chance);
         if bound == 0 || 1 << 64 < bound {
             return Ok(None);
         }

@@ -1,7 +1,7 @@
 //! The words that the steps of a reference run replace: each is read before its collapse, which is the projective
 //! measurement inside a measurement or a reset.
 ghost use Rattle.std.specs.Prelude.{◌≡◌, ◌<◌, ◌≤◌, length, IfSome};
-ghost use Rattle.programs.specs.Listed.{listed};
+ghost use Rattle.circuit_walk.specs.Steps.{listed};
 ghost use Rattle.tableau.specs.Rows.{stabilizer_at};
 ghost use Rattle.forward_sim.specs.References.{entry_of, IsStepEntry};
 ghost use Rattle.forward_sim.specs.private.Kept.{entry_for};
@@ -11,7 +11,7 @@ use crate::last_word::LastWord;
 use crate::letters::letter_row;
 use crate::machine::Machine;
 use crate::products::product_row;
-use programs::{Program, Step};
+use circuit_walk::{Program, Step};
 use std::alloc::Allocator;
 use tableau::laws::rows_have_all_letters;
 
@@ -20,7 +20,7 @@ pub(crate) fn read_replaced<A: Allocator + Copy>(
     machine: &mut Machine<'_, A>,
     program: &Program<'_, A>,
     word: &mut LastWord<A>,
-    step: Step,
+    step: Step<'_>,
 )
     requires step { CanTake program.now step (qubit_count machine.old) (length machine.old.records)
         machine.old.room }
@@ -28,19 +28,18 @@ pub(crate) fn read_replaced<A: Allocator + Copy>(
     ensures same { machine.new ≡ machine.old }
     ensures letters { word.new.room ≡ word.old.room }
     ensures entry { IsStepEntry program.now.listing.qubits (run_of machine.old).state
-        (listed program.now.listing.qubits program.now.products step) (entry_of word.new.terms) }
+        (listed program.now.listing.qubits step.entry) (entry_of word.new.terms) }
 {
-    program.well_formed();
     match step {
         Step::Collapse { letter, qubit, .. } => {
             let row = letter_row(machine, letter, qubit);
             read_row(machine, word, row);
         }
-        Step::CollapseWord { product, .. } => {
-            let row = product_row(machine, program.product(product));
+        Step::CollapseWord { letters, .. } => {
+            let row = product_row(machine, letters);
             read_row(machine, word, row);
         }
-        Step::One { .. } | Step::Two { .. } | Step::Fault(_) | Step::Feedback { .. } => {}
+        Step::One { .. } | Step::Two { .. } | Step::Fault { .. } | Step::Feedback { .. } => {}
     }
 }
 

@@ -6,7 +6,7 @@ use crate::machine::Machine;
 use crate::quiet::pass_quiet;
 use crate::records::Records;
 use crate::steps::take_step;
-use programs::{Program, Walk};
+use circuit_walk::{Program, Walk};
 use std::alloc::{AllocError, Allocator};
 use step_model::Fault;
 

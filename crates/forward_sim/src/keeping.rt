@@ -1,6 +1,6 @@
 //! A reference run is made: its records, and the words that its collapses replaced, where there is room for them.
 ghost use Rattle.std.specs.Prelude.{◌≡◌, [], true, length, IfOk, OnOk};
-ghost use Rattle.programs.specs.Listed.{listed};
+ghost use Rattle.circuit_walk.specs.Steps.{listed};
 ghost use Rattle.step_model.specs.Frames.{zero_coins};
 ghost use Rattle.step_model.specs.Runs.{next, records_of, start};
 ghost use Rattle.forward_sim.specs.References.{walking_qubits, walking_run, AreEntries, AreWordsOf};
@@ -14,7 +14,7 @@ use crate::quiet::pass_quiet;
 use crate::records::Records;
 use crate::walking::WalkingRun;
 use crate::words::ReplacedWords;
-use programs::{Program, Step, Walk};
+use circuit_walk::{Program, Step, Walk};
 use std::alloc::{AllocError, Allocator};
 
 /// The records of a program's reference run, and what says which words its collapses replaced: the words themselves where
@@ -109,18 +109,17 @@ fn keep_step<A: Allocator + Copy>(
     walk: &mut WalkingRun<A>,
     program: &Program<'_, A>,
     kept: &mut KeptWords<A>,
-    step: Step,
+    step: Step<'_>,
 ) -> Result<(), AllocError>
     requires { CanTake program.now step (walking_qubits walk.old) (length walk.old.records)
         walk.old.room }
     ensures walked { OnOk result
         (WalksTo walk.old walk.new
         (next program.now.listing []
-        (listed program.now.listing.qubits program.now.products step)
-        (walking_run walk.old))) }
+        (listed program.now.listing.qubits step.entry) (walking_run walk.old))) }
     ensures kept { OnOk result
         (StepIsKept program.now.listing.qubits (walking_run walk.old).state
-        (listed program.now.listing.qubits program.now.products step) kept.old kept.new) }
+        (listed program.now.listing.qubits step.entry) kept.old kept.new) }
 {
     if !kept.is_whole() {
         walk.go_past(program, step);

@@ -7,7 +7,7 @@ ghost use Rattle.step_model.specs.Faults.{memory_fault, without_line};
 ghost use Rattle.forward_sim.specs.Lists.{coins_of, is_one, is_zero_or_one, numbers_of};
 ghost use Rattle.forward_sim.specs.private.Numbers.{number_below};
 
-use programs::Program;
+use circuit_walk::Program;
 use std::alloc::{AllocError, Allocator};
 use step_model::{Cause, Fault};
 

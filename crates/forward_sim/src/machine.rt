@@ -1,4 +1,5 @@
 ghost use Rattle.std.specs.Prelude.{◌≡◌, ◌≢◌, ◌+◌, ◌<◌, ◌≤◌, true, false, length, drop, IfOk, is_some, if◌then◌else◌, slice_index_or};
+ghost use Rattle.circuit_walk.specs.Letters.{AreSmall, letters_in};
 ghost use Rattle.gate_table.specs.Images.{arity_of};
 ghost use Rattle.gate_table.specs.WordImages.{preimage_at, preimage_at_two};
 ghost use Rattle.pauli_word.specs.States.{applied, correcting};
@@ -11,12 +12,12 @@ ghost use Rattle.forward_sim.specs.SameRuns.{IsSameRun};
 
 use crate::records::Records;
 use crate::values::value_at;
+use circuit_walk::Letters;
 use gate_table::Gate;
 use pauli_word::{Letter, Word};
 use std::alloc::{AllocError, Allocator};
 use std::marker::Model;
 use std::mem;
-use step_model::Term;
 use tableau::WaitingTableau;
 
 // So many turns of measurements wait at most, where there are so many qubits: the rows of fewer stay in the near caches anyway.
@@ -230,15 +231,18 @@ impl<'c, A: Allocator + Copy> Machine<'c, A> {
     }
 
     /// Applies a product of letters at qubits.
-    pub(crate) fn apply_terms(&mut self, terms: &[Term])
-        requires { TermsFit (qubit_count self.old) terms.now }
+    pub(crate) fn apply_letters(&mut self, letters: Letters<'_>)
+        requires small { AreSmall letters }
+        requires fit { TermsFit (qubit_count self.old) (letters_in letters) }
         ensures { ComesTo self.old self.new
             (in_state (run_of self.old)
-            (applied true (word_of_terms (qubit_count self.old) terms.now)
+            (applied true (word_of_terms (qubit_count self.old) (letters_in letters.entry))
             (run_of self.old).state)) }
     {
-        for term in terms {
+        let mut left = letters;
+        while let Some((term, rest)) = left.split_first() {
             self.apply_letter(term.letter, term.qubit);
+            left = rest;
         }
     }
 }

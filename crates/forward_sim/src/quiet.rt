@@ -2,7 +2,7 @@
 ghost use Rattle.std.specs.Prelude.{◌≡◌, ◌<◌, ◌≤◌, true, false, length, slice_index_or};
 ghost use Rattle.forward_sim.specs.private.Quiet.{NoneAhead, NoneHappens, PassesQuiet};
 
-use programs::{Step, Walk};
+use circuit_walk::{Step, Walk};
 use std::alloc::Allocator;
 
 /// Behind a fault, goes over the faults right ahead that don't happen. Before and after, no fault ahead with a number below
@@ -12,13 +12,13 @@ pub(crate) fn pass_quiet<A: Allocator + Copy>(
     walk: &mut Walk<'_, '_, A>,
     faults: &[bool],
     hit: &mut usize,
-    step: Step,
+    step: Step<'_>,
 )
     requires { NoneAhead faults.now walk.old hit.old }
     ensures passed { PassesQuiet faults.now walk.old walk.new }
     ensures none { NoneAhead faults.now walk.new hit.new }
 {
-    if matches!(step, Step::Fault(_)) && walk.is_before_fault() {
+    if matches!(step, Step::Fault { .. }) && walk.is_before_fault() {
         pass_ahead(walk, faults, hit);
     }
 }

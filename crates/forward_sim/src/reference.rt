@@ -1,6 +1,6 @@
 ghost use Rattle.std.specs.Prelude.{◌≡◌, ◌≤◌, ◌∷◌, ℕ, List, length, option_map, IfOk, IfErr};
-ghost use Rattle.programs.specs.Listed.{listed};
-ghost use Rattle.programs.specs.Named.{IsStepOf};
+ghost use Rattle.circuit_walk.specs.Named.{IsStepOf};
+ghost use Rattle.circuit_walk.specs.Steps.{listed};
 ghost use Rattle.step_model.specs.Faults.{memory_fault};
 ghost use Rattle.step_model.specs.Frames.{zero_coins};
 ghost use Rattle.step_model.specs.Listing.{ListedStep};
@@ -12,7 +12,7 @@ use crate::records::Records;
 use crate::replaced_word::ReplacedWord;
 use crate::span::Span;
 use crate::words::ReplacedWords;
-use programs::{Program, Step};
+use circuit_walk::{Program, Step};
 use std::alloc::Allocator;
 use std::marker::Model;
 use step_model::Fault;
@@ -93,19 +93,17 @@ impl<A: Allocator + Copy> Reference<A> {
 
     /// Goes over the next step of the program. Allocates nothing.
     #[inline(always)]
-    pub fn go_over(&mut self, program: &Program<'_, A>, step: &Step)
+    pub fn go_over(&mut self, program: &Program<'_, A>, step: &Step<'_>)
         requires of_program { IsStepOf program.now step.now }
         requires next { IsNext program.now.listing
-            (listed program.now.listing.qubits program.now.products step.now) self.old.words }
+            (listed program.now.listing.qubits step.now) self.old.words }
         ensures over { (rest : List ListedStep)
             → (m : RunState)
             → (k : ℕ)
             → StandBefore program.now.listing
-            (listed program.now.listing.qubits program.now.products step.now ∷ rest) m k
-            self.old.words
+            (listed program.now.listing.qubits step.now ∷ rest) m k self.old.words
             → GoneOver program.now.listing
-            (listed program.now.listing.qubits program.now.products step.now) rest m k
-            self.new.words }
+            (listed program.now.listing.qubits step.now) rest m k self.new.words }
         ensures reference { IsReferenceOf program.now.listing self.old
             → IsReferenceOf program.now.listing self.new }
         ensures records { self.new.records ≡ self.old.records }

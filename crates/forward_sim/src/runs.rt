@@ -3,7 +3,7 @@ ghost use Rattle.std.specs.Prelude.{◌≡◌, ◌+◌, ◌^◌, ◌<◌, ◌≤
 ghost use Rattle.forward_sim.specs.private.BoundRuns.{IsGreatestBelow, bounds_in, bounds_of_run};
 ghost use Rattle.forward_sim.specs.Drawn.{bounds_of};
 
-use programs::{Program, Walk, next_fault};
+use circuit_walk::{Program, Walk, next_fault};
 use std::alloc::{AllocError, Allocator};
 
 // A run of so many faults is drawn into all lanes before the next one is. So many words stay in the first-level cache.
@@ -39,7 +39,7 @@ pub(crate) fn bound_runs<A: Allocator + Copy>(
             // Never: the walk meets as many faults as are counted.
             return Ok(None);
         };
-        count_fault(&mut runs, &mut last, program.entry_bound(fault.entry))?;
+        count_fault(&mut runs, &mut last, program.chance_bound(fault.chance))?;
     }
     runs.push(last)?;
     Ok(Some(runs))

@@ -6,7 +6,7 @@ ghost use Rattle.forward_sim.specs.Shots.{AreDrawn};
 use crate::fault_bounds::FaultBounds;
 use crate::side_draws::draw_lanes;
 use crate::span::Span;
-use programs::Program;
+use circuit_walk::Program;
 use rand_pcg::Pcg64;
 use std::alloc::Allocator;
 use std::marker::Model;

@@ -1,18 +1,19 @@
 ghost use Rattle.std.specs.Prelude.{◌≡◌, ◌+◌, ◌<◌, ◌≤◌, false, if◌then◌else◌, is_some, length, option_map, slice_index_or};
+ghost use Rattle.circuit_walk.specs.Letters.{AreSmall, letters_in};
+ghost use Rattle.circuit_walk.specs.Steps.{listed, number_of};
 ghost use Rattle.pauli_word.specs.States.{applied};
 ghost use Rattle.pauli_word.specs.Words.{lone_letter};
-ghost use Rattle.programs.specs.Listed.{listed, number_of};
-ghost use Rattle.programs.specs.Named.{IsNamed};
-ghost use Rattle.step_model.specs.Listing.{Fault};
-ghost use Rattle.step_model.specs.Runs.{after_collapse, flip_happens, next};
+ghost use Rattle.step_model.specs.Listing.{word_of_terms};
+ghost use Rattle.step_model.specs.Runs.{after_collapse, flip_happens, happens, next};
+ghost use Rattle.step_model.specs.WellFormed.{TermsFit};
 ghost use Rattle.forward_sim.specs.private.Machines.{CanTake, ComesTo, correction_of, ended, in_state, qubit_count, run_of};
 
 use crate::letters::measure_letter;
 use crate::machine::Machine;
 use crate::products::measure_product;
 use crate::values::value_at;
+use circuit_walk::{FaultName, Letters, Program, Step};
 use pauli_word::Letter;
-use programs::{FaultName, Program, Step};
 use std::alloc::Allocator;
 
 /// Takes a step of a program in which these faults happen.
@@ -21,15 +22,14 @@ pub(crate) fn take_step<A: Allocator + Copy>(
     machine: &mut Machine<'_, A>,
     program: &Program<'_, A>,
     faults: &[bool],
-    step: Step,
+    step: Step<'_>,
 )
     requires { CanTake program.now step (qubit_count machine.old) (length machine.old.records)
         machine.old.room }
     ensures { ComesTo machine.old machine.new
         (next program.now.listing faults.now
-        (listed program.now.listing.qubits program.now.products step) (run_of machine.old)) }
+        (listed program.now.listing.qubits step.entry) (run_of machine.old)) }
 {
-    program.well_formed();
     match step {
         Step::One { gate, q } => machine.apply_one(gate, q),
         Step::Two { gate, a, b } => machine.apply_two(gate, a, b),
@@ -45,15 +45,15 @@ pub(crate) fn take_step<A: Allocator + Copy>(
             collapse(machine, letter, qubit, reset, rec, changes);
         }
         Step::CollapseWord {
-            product,
+            letters,
             rec,
             inverted,
             flip,
         } => {
-            let seen = measure_product(machine, program.product(product));
+            let seen = measure_product(machine, letters);
             machine.keep(rec, seen ^ (inverted ^ flip_happens(faults, flip)));
         }
-        Step::Fault(name) => take_fault(machine, program, faults, name),
+        Step::Fault { name, letters } => take_fault(machine, faults, name, letters),
         Step::Feedback { letter, q, rec } => feed_back(machine, letter, q, rec),
     }
 }
@@ -103,18 +103,20 @@ fn end_collapse<A: Allocator + Copy>(
 // Applies the letters of a fault, where it happens.
 fn take_fault<A: Allocator + Copy>(
     machine: &mut Machine<'_, A>,
-    program: &Program<'_, A>,
     faults: &[bool],
     name: FaultName,
+    letters: Letters<'_>,
 )
-    requires named { IsNamed program.now name }
-    requires qubits { qubit_count machine.old ≡ program.now.listing.qubits }
+    requires small { AreSmall letters }
+    requires fit { TermsFit (qubit_count machine.old) (letters_in letters) }
     ensures { ComesTo machine.old machine.new
-        (next program.now.listing faults.now (Fault name.number) (run_of machine.old)) }
+        (in_state (run_of machine.old)
+        (applied (happens faults.now name.number)
+        (word_of_terms (qubit_count machine.old) (letters_in letters.entry))
+        (run_of machine.old).state)) }
 {
-    program.well_formed();
     if value_at(faults, name.number) {
-        machine.apply_terms(program.entry_terms(name.entry));
+        machine.apply_letters(letters);
     }
 }
 

@@ -1,5 +1,5 @@
 ghost use Rattle.std.specs.Prelude.{◌≡◌, [], length, IfOk};
-ghost use Rattle.programs.specs.Listed.{listed};
+ghost use Rattle.circuit_walk.specs.Steps.{listed};
 ghost use Rattle.step_model.specs.Runs.{next, start};
 ghost use Rattle.forward_sim.specs.References.{entry_of, walking_qubits, walking_run, IsStepEntry};
 ghost use Rattle.forward_sim.specs.private.Kept.{terms_listed, WalksTo};
@@ -11,7 +11,7 @@ use crate::last_word::LastWord;
 use crate::machine::Machine;
 use crate::records::Records;
 use crate::steps::take_step;
-use programs::{Program, Step};
+use circuit_walk::{Program, Step};
 use std::alloc::{AllocError, Allocator};
 use std::marker::Model;
 
@@ -70,29 +70,26 @@ impl<A: Allocator + Copy> WalkingRun<A> {
     }
 
     /// Goes over a step.
-    pub(crate) fn go_over(&mut self, program: &Program<'_, A>, step: Step)
+    pub(crate) fn go_over(&mut self, program: &Program<'_, A>, step: Step<'_>)
         requires { CanTake program.now step (walking_qubits self.old) (length self.old.records)
             self.old.room }
         ensures walked { WalksTo self.old self.new
             (next program.now.listing []
-            (listed program.now.listing.qubits program.now.products step)
-            (walking_run self.old)) }
+            (listed program.now.listing.qubits step.entry) (walking_run self.old)) }
         ensures entry { IsStepEntry program.now.listing.qubits (walking_run self.old).state
-            (listed program.now.listing.qubits program.now.products step)
-            (entry_of self.new.terms) }
+            (listed program.now.listing.qubits step.entry) (entry_of self.new.terms) }
     {
         read_replaced(&mut self.machine, program, &mut self.word, step);
         take_step(&mut self.machine, program, &[], step);
     }
 
     /// Goes over a step, and says nothing of it.
-    pub(crate) fn go_past(&mut self, program: &Program<'_, A>, step: Step)
+    pub(crate) fn go_past(&mut self, program: &Program<'_, A>, step: Step<'_>)
         requires { CanTake program.now step (walking_qubits self.old) (length self.old.records)
             self.old.room }
         ensures walked { WalksTo self.old self.new
             (next program.now.listing []
-            (listed program.now.listing.qubits program.now.products step)
-            (walking_run self.old)) }
+            (listed program.now.listing.qubits step.entry) (walking_run self.old)) }
     {
         take_step(&mut self.machine, program, &[], step);
     }

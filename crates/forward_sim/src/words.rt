@@ -1,6 +1,6 @@
 ghost use Rattle.std.specs.Prelude.{◌≡◌, ◌≤◌, ◌∷◌, ℕ, List, option_map};
-ghost use Rattle.programs.specs.Listed.{listed};
-ghost use Rattle.programs.specs.Named.{IsStepOf};
+ghost use Rattle.circuit_walk.specs.Named.{IsStepOf};
+ghost use Rattle.circuit_walk.specs.Steps.{listed};
 ghost use Rattle.step_model.specs.Frames.{zero_coins};
 ghost use Rattle.step_model.specs.Listing.{ListedStep};
 ghost use Rattle.step_model.specs.Runs.{RunState, start};
@@ -11,7 +11,7 @@ use crate::kept_words::KeptWords;
 use crate::replaced_word::{ReplacedWord, word_listed};
 use crate::span::Span;
 use crate::walking::WalkingRun;
-use programs::{Program, Step};
+use circuit_walk::{Program, Step};
 use std::alloc::Allocator;
 
 /// What says which words the collapses of a reference run replaced.
@@ -40,19 +40,17 @@ impl<A: Allocator + Copy> ReplacedWords<A> {
 
     /// Goes over the next step of the program.
     #[inline(always)]
-    pub(crate) fn go_over(&mut self, program: &Program<'_, A>, step: &Step)
+    pub(crate) fn go_over(&mut self, program: &Program<'_, A>, step: &Step<'_>)
         requires of_program { IsStepOf program.now step.now }
         requires next { IsNext program.now.listing
-            (listed program.now.listing.qubits program.now.products step.now) (words_of self.old) }
+            (listed program.now.listing.qubits step.now) (words_of self.old) }
         ensures over { (rest : List ListedStep)
             → (m : RunState)
             → (k : ℕ)
             → StandBefore program.now.listing
-            (listed program.now.listing.qubits program.now.products step.now ∷ rest) m k
-            (words_of self.old)
+            (listed program.now.listing.qubits step.now ∷ rest) m k (words_of self.old)
             → GoneOver program.now.listing
-            (listed program.now.listing.qubits program.now.products step.now) rest m k
-            (words_of self.new) }
+            (listed program.now.listing.qubits step.now) rest m k (words_of self.new) }
         ensures words { AreWordsOf program.now.listing (words_of self.old)
             → AreWordsOf program.now.listing (words_of self.new) }
     {

@@ -1,5 +1,5 @@
 -- A target's detection: its parity over the flips.
-use Rattle.std.proofs.Common.{◌≡◌, ℕ, ◌+◌, ◌<◌, Bool, true, false, List, [], length, get_or, refl, sym, ap, ◌∙◌, arith, length-append}
+use Rattle.std.proofs.Common.{◌≡◌, ℕ, ◌<◌, Bool, true, false, List, [], length, get_or, refl, sym, ap, ◌∙◌}
 use Rattle.std.proofs.lemmas.List as lists
 use Rattle.forward_sim.proofs.Differences.{differences-map}
 use Rattle.pauli_word.specs.Parity.{exclusive_or}
@@ -14,13 +14,12 @@ undone false true = refl
 undone true false = refl
 undone true true = refl
 
-pub detection : (program : Listing) (number : ℕ) (flips values : List Bool) → number < length program.detectors + length program.observables
+pub detection : (program : Listing) (number : ℕ) (flips values : List Bool) → number < length (targets_of program)
     → parity (target_at program number) flips ≡ get_or (difference program (flipped_by flips values) values) number false
 detection program number flips values inside =
     let named = target_at program number in
-    let within : number < length (targets_of program) = omega (arith, length-append program.detectors program.observables) in
     sym
     (ap (λ xs. get_or xs number false) (differences-map (λ t. parity t (flipped_by flips values)) (λ t. parity t values) (targets_of program))
-    ∙ lists.get_or-map (λ t. exclusive_or (parity t (flipped_by flips values)) (parity t values)) (targets_of program) number [] false within
+    ∙ lists.get_or-map (λ t. exclusive_or (parity t (flipped_by flips values)) (parity t values)) (targets_of program) number [] false inside
     ∙ ap (λ x. exclusive_or x (parity named values)) (parity-joined named flips values)
     ∙ undone (parity named flips) (parity named values))

@@ -1,22 +1,27 @@
 -- The frame behind a step, as the loops over lanes make it.
 use Rattle.std.proofs.lemmas.List as lists
-use Rattle.std.proofs.Common.{get_or, set, ◌≡◌, ℕ, Bool, true, false, List, [], length, Option, None, Some, is_some, refl, sym, ap, ◌∙◌}
-use Rattle.std.specs.Prelude.{if◌then◌else◌}
+use Rattle.std.proofs.Common.{◌∷◌, ◌++◌, append-nil, ap₂, get_or, set, ◌≡◌, ℕ, Bool, true, false, List, [], length, Option, None, Some, is_some, refl, sym, ap, ◌∙◌}
+use Rattle.std.specs.Prelude.{if◌then◌else◌, option_map}
 use Rattle.bit_rows.specs.Lanes.{lane, lane_bit}
 use Rattle.bit_rows.proofs.LaneLaws.{lane_bit-zero}
 use Rattle.pauli_word.specs.declared.letter.Letter.{Letter}
 use Rattle.pauli_word.specs.declared.letter.Letter.TheVariants.{I}
 use Rattle.pauli_word.specs.Parity.{exclusive_or}
 use Rattle.pauli_word.specs.Words.{anticommute, lone_letter}
-use Rattle.programs.specs.declared.step.FaultName.{FaultName}
-use Rattle.programs.specs.Listed.{measured, recorded}
+use Rattle.circuit_walk.specs.declared.letters.Letters.{Letters}
+use Rattle.circuit_walk.specs.declared.step.FaultName.{FaultName}
+use Rattle.circuit_walk.specs.declared.step.Step.TheVariants as step
+use Rattle.circuit_walk.specs.Letters.{letters_in}
+use Rattle.circuit_walk.specs.Named.{IsStepOf}
+use Rattle.circuit_walk.specs.Programs.{KeptProgram}
+use Rattle.circuit_walk.specs.Steps.{measured, number_of, recorded}
 use Rattle.step_model.specs.declared.step.Term.{Term}
 use Rattle.step_model.specs.Frames.{Frame}
-use Rattle.step_model.specs.Listing.{Listing, ListedStep, One, Two, Collapse, Fault, Feedback, Measured, measured_word, step_records, fault_word}
+use Rattle.step_model.specs.Listing.{Listing, ListedStep, One, Two, Collapse, Fault, Feedback, Measured, Word, effect_word, measured_word, step_records, fault_word, word_of_terms}
 use Rattle.step_model.specs.Runs.{flip_happens}
 use Rattle.step_model.specs.Sensitivities.{multiplied}
-use Rattle.frames.specs.private.Followed.{Turns, TurnsAt, flips_in, followed, reset_in, turned, turned_in, turned_where}
-use Rattle.frames.specs.LaneFrames.{LaneFrames, frame_in, GoesTo}
+use Rattle.frames.specs.private.Followed.{Turns, TurnsAt, flips_in, followed, multiplied_in, reset_in, turned, turned_in, turned_where}
+use Rattle.frames.specs.LaneFrames.{LaneFrames, frame_in, GoesTo, with_record}
 use Rattle.frames.specs.LaneLetters.{word_in}
 use Rattle.frames.proofs.FollowLaw.{turned-flip}
 use Rattle.frames.proofs.LaneFrameLaws.{frame_with, goes_as, goes_then, length-word_in}
@@ -81,6 +86,41 @@ pub goes_cleared : (n : ℕ) (replaced : Option (List Term)) (coins : ℕ) (lett
 goes_cleared n replaced coins letter q old mid new moved clears =
     goes_as old new _ _ (goes_then old mid new _ _ moved clears)
     (λ j. ap (frame_with (set (turned n replaced (lane_bit j coins) (lone_letter n q letter) (frame_in j old)).word q I)) (turned-records n replaced _ (frame_in j old)))
+
+-- frames that were turned, and then had their flips recorded, went over a collapse of a word that resets no qubit
+module _ (program : Listing) (faults : List ℕ) (replaced : Option (List Term)) (coins flips hits total : ℕ) (w : List Letter)
+    (inverted : Bool) (flip : Option FaultName) (old mid new : LaneFrames)
+    (moved : GoesTo old mid (turned_in program.qubits replaced coins w))
+    (flips_are : (j : ℕ) → lane_bit j flips ≡ flips_in program.qubits replaced coins w old j)
+    (hits_are : (j : ℕ) → lane_bit j hits ≡ flip_happens (lane j faults) (option_map number_of flip))
+    (total_is : (j : ℕ) → lane_bit j total ≡ exclusive_or (lane_bit j flips) (lane_bit j hits)) where
+  pub collapse_followed : (rec : Option ℕ) → GoesTo mid new (λ j v. with_record rec (lane_bit j total) v)
+      → GoesTo old new (λ j v. followed program (lane j faults) replaced (lane_bit j coins) (Collapse (Word w) (recorded rec inverted flip)) v)
+  collapse_followed None goes =
+      goes_as old new _ _ (goes_then old mid new (turned_in program.qubits replaced coins w) _ moved goes)
+      (λ j.
+      let u = turned program.qubits replaced (lane_bit j coins) w (frame_in j old) in
+      ap (frame_with u.word) (sym (append-nil u.records)))
+  collapse_followed (Some r) goes =
+      goes_as old new _ _ (goes_then old mid new (turned_in program.qubits replaced coins w) _ moved goes)
+      (λ j.
+      let u = turned program.qubits replaced (lane_bit j coins) w (frame_in j old) in
+      let named = option_map number_of flip in
+      ap (λ b. frame_with u.word (u.records ++ b ∷ []))
+      (total_is j
+      ∙ ap₂ exclusive_or (flips_are j) (hits_are j ∙ sym (ap (λ b. exclusive_or b (flip_happens (lane j faults) named)) (none-happens named)))))
+
+-- frames that were multiplied by the letters of a fault where it happens went over it
+pub fault_followed : (program : KeptProgram) (faults : List ℕ) (replaced : Option (List Term)) (coins runs : ℕ) (name : FaultName) (letters : Letters) (old new : LaneFrames)
+    → length old.letters ≡ program.listing.qubits → IsStepOf program (step.Fault name letters)
+    → ((j : ℕ) → lane_bit j runs ≡ get_or (lane j faults) name.number false)
+    → GoesTo old new (multiplied_in runs (word_of_terms (length old.letters) (letters_in letters)))
+    → GoesTo old new (λ j v. followed program.listing (lane j faults) replaced (lane_bit j coins) (Fault name.number) v)
+fault_followed program faults replaced coins runs name letters old new size named happens goes =
+    let word : word_of_terms (length old.letters) (letters_in letters) ≡ fault_word program.listing name.number =
+    ap (λ n. word_of_terms n (letters_in letters)) size ∙ sym (ap (effect_word program.listing.qubits) named.1) in
+    goes_as old new _ _ goes
+    (λ j. ap₂ (λ b w. record (frame_in j old) { word = multiplied b w (frame_in j old).word }) (happens j) word)
 
 -- where nothing is kept of a collapse, nothing is asked of it
 pub no_turns : (n : ℕ) (step : ListedStep) → TurnsAt n None step

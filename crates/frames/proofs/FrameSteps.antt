@@ -6,10 +6,10 @@ use Rattle.pauli_word.specs.declared.letter.Letter.{Letter}
 use Rattle.pauli_word.specs.declared.letter.Letter.TheVariants.{I}
 use Rattle.pauli_word.specs.Letters.{letters_clash}
 use Rattle.pauli_word.specs.Words.{anticommute, letter_at, lone_letter}
-use Rattle.programs.specs.declared.step.FaultName.{FaultName}
-use Rattle.programs.specs.Listed.{measured, recorded}
+use Rattle.circuit_walk.specs.declared.step.FaultName.{FaultName}
+use Rattle.circuit_walk.specs.Steps.{measured, recorded}
 use Rattle.step_model.specs.Frames.{Frame, carried, flips_from, record_flip}
-use Rattle.step_model.specs.Listing.{ListedStep, Collapse, measured_word, is_collapse}
+use Rattle.step_model.specs.Listing.{ListedStep, Collapse, Word, measured_word, is_collapse}
 use Rattle.step_model.specs.Sensitivities.{collapse_word}
 use Rattle.frames.specs.private.Flips.{flip_of, recorded_flips}
 use Rattle.run_laws.proofs.ShiftWords.{anticommute-lone}
@@ -34,6 +34,11 @@ measured_word-measured n false letter q = refl
 record_flip-recorded : (rec : Option ℕ) (inverted : Bool) (flip : Option FaultName) (w v : List Letter) → record_flip (recorded rec inverted flip) w v ≡ recorded_flips rec (anticommute v w)
 record_flip-recorded None inverted flip w v = refl
 record_flip-recorded (Some r) inverted flip w v = refl
+
+-- a frame behind a collapse of a word that resets no qubit
+pub carried-word : (n : ℕ) (v : Frame) (w : List Letter) (rec : Option ℕ) (inverted : Bool) (flip : Option FaultName)
+    → carried n (Collapse (Word w) (recorded rec inverted flip)) v ≡ frame v.word (v.records ++ recorded_flips rec (anticommute v.word w))
+carried-word n v w rec inverted flip = ap (λ more. frame v.word (v.records ++ more)) (record_flip-recorded rec inverted flip w v.word)
 
 -- a frame at a collapse of a letter at a qubit: it meets the letter there alone
 module _ (n : ℕ) (v : Frame) (letter : Letter) (q : ℕ) (rec : Option ℕ) (inverted : Bool) (flip : Option FaultName) (size : length v.word ≡ n) (inside : q < n) where

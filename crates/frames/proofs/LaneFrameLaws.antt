@@ -13,7 +13,7 @@ use Rattle.pauli_word.specs.Letters.{letters_clash}
 use Rattle.pauli_word.specs.Parity.{exclusive_or}
 use Rattle.pauli_word.specs.Words.{anticommute, letter_at, letters_product, lone_letter, no_letters}
 use Rattle.pauli_word.proofs.LoneLetters.{length-lone_letter, letters_product-lone_letter, letters_product_of_no_letters}
-use Rattle.pauli_word.proofs.WordLaws.{letters_product_assoc}
+use Rattle.pauli_word.proofs.WordLaws.{letters_product_assoc, letters_product_comm}
 use Rattle.step_model.specs.declared.step.Term.{Term}
 use Rattle.step_model.specs.Frames.{Frame}
 use Rattle.step_model.specs.Listing.{word_of_terms}
@@ -24,7 +24,7 @@ use Rattle.forward_sim.proofs.KeptWords.{word_of_both}
 use Rattle.run_laws.proofs.ShiftSteps.{anticommute-multiplied}
 use Rattle.run_laws.proofs.ShiftWords.{anticommute-lone}
 use Rattle.frames.specs.private.Followed.{letters_alone, multiplied_in}
-use Rattle.frames.specs.declared.letters.Letters.{Letters}
+use Rattle.frames.specs.declared.letters.LaneLetters.{LaneLetters}
 use Rattle.frames.specs.LaneFrames.{LaneFrames, frame_in, GoesTo}
 use Rattle.frames.specs.LaneLetters.{letter_in, none_at, word_in, times_where}
 use Rattle.frames.specs.Batches.{AreAtStart}
@@ -34,17 +34,17 @@ use Rattle.frames.proofs.LaneLaws.{letter_in-none}
 abbrev pub frame_with : List Letter → List Bool → Frame
 frame_with word records = record { word = word; records = records }
 
-abbrev pub with_letters : LaneFrames → List Letters → LaneFrames
+abbrev pub with_letters : LaneFrames → List LaneLetters → LaneFrames
 with_letters f letters = record f { letters = letters }
 
-pub length-word_in : (j : ℕ) (letters : List Letters) → length (word_in j letters) ≡ length letters
+pub length-word_in : (j : ℕ) (letters : List LaneLetters) → length (word_in j letters) ≡ length letters
 length-word_in j letters = lists.length-map letters (letter_in j)
 
-pub letter_at-word_in : (j : ℕ) (letters : List Letters) (q : ℕ) (d : Letters) → q < length letters → letter_at (word_in j letters) q ≡ letter_in j (get_or letters q d)
+pub letter_at-word_in : (j : ℕ) (letters : List LaneLetters) (q : ℕ) (d : LaneLetters) → q < length letters → letter_at (word_in j letters) q ≡ letter_in j (get_or letters q d)
 letter_at-word_in j letters q d inside = lists.get_or-map (letter_in j) letters q d I inside
 
 -- letters are put at a qubit, which are what `go` makes of each run's word
-pub put_letters : (f : LaneFrames) (q : ℕ) (l : Letters) (go : ℕ → List Letter → List Letter)
+pub put_letters : (f : LaneFrames) (q : ℕ) (l : LaneLetters) (go : ℕ → List Letter → List Letter)
     → ((j : ℕ) → set (word_in j f.letters) q (letter_in j l) ≡ go j (word_in j f.letters))
     → GoesTo f (with_letters f (set f.letters q l)) (λ j v. record v { word = go j v.word })
 put_letters f q l go is = record {
@@ -54,7 +54,7 @@ put_letters f q l go is = record {
 }
 
 -- letters are put at two qubits
-pub put_two : (f : LaneFrames) (a b : ℕ) (k l : Letters) (go : ℕ → List Letter → List Letter)
+pub put_two : (f : LaneFrames) (a b : ℕ) (k l : LaneLetters) (go : ℕ → List Letter → List Letter)
     → ((j : ℕ) → set (set (word_in j f.letters) a (letter_in j k)) b (letter_in j l) ≡ go j (word_in j f.letters))
     → GoesTo f (with_letters f (set (set f.letters a k) b l)) (λ j v. record v { word = go j v.word })
 put_two f a b k l go is = record {
@@ -121,6 +121,31 @@ times-none terms runs old = record {
       ∙ ap (λ ts. multiplied (lane_bit j runs) (word_of_terms n ts) (word_in j old.letters)) (sym (drop_all (length terms) terms (omega arith))));
 }
 
+-- what the letters that are left, multiplied in, make of frames is what all made of the first
+abbrev pub LeadsOn : ℕ → List Term → ℕ → (ℕ → Frame) → LaneFrames → Type 0
+LeadsOn n left runs ends f = (j : ℕ) → multiplied_in runs (word_of_terms n left) j (frame_in j f) ≡ ends j
+
+-- the first letter is multiplied in
+pub leads-more : (n : ℕ) (term : Term) (rest : List Term) (runs : ℕ) (ends : ℕ → Frame) (mid new : LaneFrames) → length mid.letters ≡ n
+    → GoesTo mid new (multiplied_in runs (lone_letter (length mid.letters) term.qubit term.letter))
+    → LeadsOn n (term ∷ rest) runs ends mid → LeadsOn n rest runs ends new
+leads-more n term rest runs ends mid new size one before j =
+    let b = lane_bit j runs in
+    let v = frame_in j mid in
+    let lone = lone_letter n term.qubit term.letter in
+    let behind = word_of_terms n rest in
+    ap (multiplied_in runs behind j) (one.frames j)
+    ∙ ap (λ m. frame_with (multiplied b behind (multiplied b (lone_letter m term.qubit term.letter) v.word)) v.records) size
+    ∙ ap (λ w. frame_with w v.records)
+    (multiplied-product b behind lone v.word ∙ ap (λ u. multiplied b u v.word) (letters_product_comm behind lone))
+    ∙ before j
+
+-- behind the last letter
+pub leads-all : (n runs : ℕ) (ends : ℕ → Frame) (f : LaneFrames) → length f.letters ≡ n → LeadsOn n [] runs ends f → (j : ℕ) → frame_in j f ≡ ends j
+leads-all n runs ends f size before j =
+    ap (λ w. frame_with w (lane j f.flips)) (sym (multiplied-none n (lane_bit j runs) (word_in j f.letters) (length-word_in j f.letters ∙ size)))
+    ∙ before j
+
 -- parts of what stands at n qubits stand there too
 pub fit_front : (n : ℕ) (us vs : List Term) → TermsFit n (us ++ vs) → TermsFit n us
 fit_front n us vs fit =
@@ -153,7 +178,7 @@ times-both us vs runs old mid new first second =
     }
 
 -- the letters alone are multiplied, and the flips stay
-pub times-alone : (old new : LaneFrames) (before after : List Letters) (runs : ℕ) (terms : List Term)
+pub times-alone : (old new : LaneFrames) (before after : List LaneLetters) (runs : ℕ) (terms : List Term)
     → before ≡ old.letters → new.letters ≡ after → new.flips ≡ old.flips → new.room ≡ old.room
     → GoesTo (letters_alone before) (letters_alone after) (multiplied_in runs (word_of_terms (length before) terms))
     → GoesTo old new (multiplied_in runs (word_of_terms (length old.letters) terms))
@@ -188,7 +213,7 @@ at_start f n letters flips j =
     ∙ ap (λ w. frame_with w []) (word_in-none j n ∙ ap no_letters (sym (ap length letters ∙ lists.length-replicate n none_at)))
 
 -- a slice that is written back to the vector that lent it
-pub written : (len : ℕ) (new items : List Letters) → length new ≡ len → take len (new ++ drop (length new) items) ≡ new
+pub written : (len : ℕ) (new items : List LaneLetters) → length new ≡ len → take len (new ++ drop (length new) items) ≡ new
 written len new items size = ap (λ k. take k (new ++ drop (length new) items)) (sym size) ∙ take-append_seam new (drop (length new) items)
 
 -- a record's flip, and the reference's record

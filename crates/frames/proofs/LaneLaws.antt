@@ -13,13 +13,13 @@ use Rattle.pauli_word.specs.Letters.{letter_product, letters_clash}
 use Rattle.pauli_word.specs.Parity.{exclusive_or}
 use Rattle.pauli_word.proofs.LetterLaws.{letter_product_assoc, letter_product_comm, letter_product-I}
 use Rattle.pauli_word.proofs.Parities.{exclusive_or-false}
-use Rattle.frames.specs.declared.letters.Letters.{Letters}
+use Rattle.frames.specs.declared.letters.LaneLetters.{LaneLetters}
 use Rattle.frames.specs.LaneLetters.{letter_in, times_where}
 
-abbrev pub letters : ℕ → ℕ → Letters
+abbrev pub letters : ℕ → ℕ → LaneLetters
 letters x z = record { x = x; z = z }
 
-pub letter_in-bits : (j : ℕ) (l : Letters) → letter_in j l ≡ letter_of (lane_bit j l.x) (lane_bit j l.z)
+pub letter_in-bits : (j : ℕ) (l : LaneLetters) → letter_in j l ≡ letter_of (lane_bit j l.x) (lane_bit j l.z)
 unfolding letter_in
 letter_in-bits j l = refl
 
@@ -51,16 +51,16 @@ clash_of-I false true = refl
 clash_of-I true false = refl
 clash_of-I true true = refl
 
-pub clash-I : (j : ℕ) (l : Letters) → lane_bit j 0 ≡ letters_clash (letter_in j l) I
+pub clash-I : (j : ℕ) (l : LaneLetters) → lane_bit j 0 ≡ letters_clash (letter_in j l) I
 clash-I j l = lane_bit-zero j ∙ sym (ap (λ a. letters_clash a I) (letter_in-bits j l) ∙ clash_of-I (lane_bit j l.x) (lane_bit j l.z))
 
-pub clash-X : (j : ℕ) (l : Letters) → lane_bit j l.z ≡ letters_clash (letter_in j l) X
+pub clash-X : (j : ℕ) (l : LaneLetters) → lane_bit j l.z ≡ letters_clash (letter_in j l) X
 clash-X j l = sym (ap (λ a. letters_clash a X) (letter_in-bits j l) ∙ clash_of-X (lane_bit j l.x) (lane_bit j l.z))
 
-pub clash-Y : (j : ℕ) (l : Letters) (word : ℕ) → lane_bit j word ≡ exclusive_or (lane_bit j l.x) (lane_bit j l.z) → lane_bit j word ≡ letters_clash (letter_in j l) Y
+pub clash-Y : (j : ℕ) (l : LaneLetters) (word : ℕ) → lane_bit j word ≡ exclusive_or (lane_bit j l.x) (lane_bit j l.z) → lane_bit j word ≡ letters_clash (letter_in j l) Y
 clash-Y j l word is = is ∙ sym (ap (λ a. letters_clash a Y) (letter_in-bits j l) ∙ clash_of-Y (lane_bit j l.x) (lane_bit j l.z))
 
-pub clash-Z : (j : ℕ) (l : Letters) → lane_bit j l.x ≡ letters_clash (letter_in j l) Z
+pub clash-Z : (j : ℕ) (l : LaneLetters) → lane_bit j l.x ≡ letters_clash (letter_in j l) Z
 clash-Z j l = sym (ap (λ a. letters_clash a Z) (letter_in-bits j l) ∙ clash_of-Z (lane_bit j l.x) (lane_bit j l.z))
 
 times_of-X : (x z b : Bool) → letter_of (exclusive_or x b) z ≡ times_where b X (letter_of x z)
@@ -103,7 +103,7 @@ times_of X x z b = ap (letter_of (exclusive_or x b)) (exclusive_or-false z) ∙ 
 times_of Y x z b = times_of-Y x z b
 times_of Z x z b = ap (λ c. letter_of c (exclusive_or z b)) (exclusive_or-false x) ∙ times_of-Z x z b
 
-pub times-lanes : (j : ℕ) (l : Letters) (a : Letter) (runs x z : ℕ) → lane_bit j x ≡ exclusive_or (lane_bit j l.x) (x_bit a && lane_bit j runs)
+pub times-lanes : (j : ℕ) (l : LaneLetters) (a : Letter) (runs x z : ℕ) → lane_bit j x ≡ exclusive_or (lane_bit j l.x) (x_bit a && lane_bit j runs)
     → lane_bit j z ≡ exclusive_or (lane_bit j l.z) (z_bit a && lane_bit j runs) → letter_in j (letters x z) ≡ times_where (lane_bit j runs) a (letter_in j l)
 times-lanes j l a runs x z is is' =
     letter_in-bits j (letters x z)
@@ -120,7 +120,7 @@ from_images f at_I at_Y true true c =
     sym (letter_product_assoc (f Z) (f X) c) ∙ ap (λ a. letter_product a c) (letter_product_comm (f Z) (f X) ∙ sym at_Y)
 
 -- so is the image of a letter
-pub image-lanes : (gate : Gate) (j : ℕ) (l : Letters) → times_where (lane_bit j l.z) (image1 gate Z).0 (times_where (lane_bit j l.x) (image1 gate X).0 I) ≡ (image1 gate (letter_in j l)).0
+pub image-lanes : (gate : Gate) (j : ℕ) (l : LaneLetters) → times_where (lane_bit j l.z) (image1 gate Z).0 (times_where (lane_bit j l.x) (image1 gate X).0 I) ≡ (image1 gate (letter_in j l)).0
 image-lanes gate j l =
     from_images (λ a. (image1 gate a).0) (ap (λ (p : Letter × Bool). p.0) (image1-I gate)) (image1-product gate X Z).letter (lane_bit j l.x) (lane_bit j l.z) I
     ∙ letter_product-I _
@@ -136,7 +136,7 @@ second_of p = p.1
 -- what the letters of one qubit and those of the other make, each beside I, is multiplied
 pair-lanes : (f : Letter → Letter → Letter) → f I I ≡ I → f Y I ≡ letter_product (f X I) (f Z I) → f I Y ≡ letter_product (f I X) (f I Z)
     → ((a b : Letter) → f (letter_product a I) b ≡ letter_product (f a I) (f I b))
-    → (j : ℕ) (l r : Letters)
+    → (j : ℕ) (l r : LaneLetters)
     → times_where (lane_bit j r.z) (f I Z) (times_where (lane_bit j r.x) (f I X) (times_where (lane_bit j l.z) (f Z I) (times_where (lane_bit j l.x) (f X I) I))) ≡ f (letter_in j l) (letter_in j r)
 pair-lanes f at_I at_Y at_Y' splits j l r =
     let a = letter_of (lane_bit j l.x) (lane_bit j l.z) in
@@ -148,13 +148,13 @@ pair-lanes f at_I at_Y at_Y' splits j l r =
     ∙ ap (λ c. f c b) (letter_product-I a)
     ∙ ap₂ f (sym (letter_in-bits j l)) (sym (letter_in-bits j r))
 
-pub first-lanes : (gate : Gate) (j : ℕ) (l r : Letters)
+pub first-lanes : (gate : Gate) (j : ℕ) (l r : LaneLetters)
     → times_where (lane_bit j r.z) (image2 gate I Z).0 (times_where (lane_bit j r.x) (image2 gate I X).0 (times_where (lane_bit j l.z) (image2 gate Z I).0 (times_where (lane_bit j l.x) (image2 gate X I).0 I)))
     ≡ (image2 gate (letter_in j l) (letter_in j r)).0
 first-lanes gate j l r =
     pair-lanes (λ a b. (image2 gate a b).0) (ap first_of (image2-I gate)) (image2-product gate X I Z I).first (image2-product gate I X I Z).first (λ a b. (image2-product gate a I I b).first) j l r
 
-pub second-lanes : (gate : Gate) (j : ℕ) (l r : Letters)
+pub second-lanes : (gate : Gate) (j : ℕ) (l r : LaneLetters)
     → times_where (lane_bit j r.z) (image2 gate I Z).1 (times_where (lane_bit j r.x) (image2 gate I X).1 (times_where (lane_bit j l.z) (image2 gate Z I).1 (times_where (lane_bit j l.x) (image2 gate X I).1 I)))
     ≡ (image2 gate (letter_in j l) (letter_in j r)).1
 second-lanes gate j l r =

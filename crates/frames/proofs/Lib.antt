@@ -7,6 +7,7 @@ pub mod CarriedFrames
 pub mod Detections
 pub mod FollowedSteps
 pub mod FollowLaw
+pub mod FollowerLemmas
 pub mod LaneFrameLaws
 pub mod LaneLaws
 pub mod DecidedCoins

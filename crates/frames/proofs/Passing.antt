@@ -5,11 +5,12 @@ use Rattle.std.proofs.Math.Nat.{sub-zero}
 use Rattle.std.proofs.lemmas.List.{replicate_more, length-replicate}
 use Rattle.pauli_word.specs.declared.letter.Letter.{Letter}
 use Rattle.pauli_word.specs.Words.{no_letters}
-use Rattle.programs.specs.declared.step.FaultName.{FaultName}
-use Rattle.programs.specs.declared.step.Step.{Step}
-use Rattle.programs.specs.declared.step.Step.TheVariants as step
-use Rattle.programs.specs.Kept.{KeptProgram}
-use Rattle.programs.specs.Listed.{listed, measured, recorded, product_at}
+use Rattle.circuit_walk.specs.declared.step.FaultName.{FaultName}
+use Rattle.circuit_walk.specs.declared.step.Step.{Step}
+use Rattle.circuit_walk.specs.declared.step.Step.TheVariants as step
+use Rattle.circuit_walk.specs.Letters.{letters_in}
+use Rattle.circuit_walk.specs.Programs.{KeptProgram}
+use Rattle.circuit_walk.specs.Steps.{listed, measured, recorded}
 use Rattle.step_model.specs.Frames.{begun, flips_from, flips_after, flips_of, first_word, words_collapsed}
 use Rattle.step_model.specs.declared.step.Place.TheVariants.{After}
 use Rattle.step_model.specs.Listing.{Listing, ListedStep, Measured, Word, Collapse, word_of_terms, step_records, is_collapse}
@@ -38,13 +39,13 @@ module _ (program : KeptProgram) (well : IsWellFormed program.listing) (k made :
   made_in c (Some r) inverted flip here = omega (arith, record_at program.listing k c _ well here)
 
   -- the records that there are after a step, by the number of its own
-  pub made_after-step : (s : Step) → slice_get program.listing.steps k ≡ Some (listed program.listing.qubits program.products s)
-      → made_after made s ≡ made + length (step_records (listed program.listing.qubits program.products s))
+  pub made_after-step : (s : Step) → slice_get program.listing.steps k ≡ Some (listed program.listing.qubits s)
+      → made_after made s ≡ made + length (step_records (listed program.listing.qubits s))
   made_after-step (step.One gate q) here = omega arith
   made_after-step (step.Two gate a b) here = omega arith
   made_after-step (step.Collapse letter q rec reset inverted flip) here = made_in (measured program.listing.qubits reset letter q) rec inverted flip here
-  made_after-step (step.CollapseWord p rec inverted flip) here = made_in (Word (word_of_terms program.listing.qubits (product_at program.products p))) rec inverted flip here
-  made_after-step (step.Fault name) here = omega arith
+  made_after-step (step.CollapseWord letters rec inverted flip) here = made_in (Word (word_of_terms program.listing.qubits (letters_in letters))) rec inverted flip here
+  made_after-step (step.Fault name letters) here = omega arith
   made_after-step (step.Feedback letter q r) here = omega arith
 
 -- these steps are left, before them were so many collapses and records, and the collapse k is at or behind them

@@ -5,8 +5,8 @@ use Rattle.std.proofs.lemmas.Bool.{and_parts}
 use Rattle.forward_sim.specs.References.{GoneOver, ReferenceRun, StandBefore, Words}
 use Rattle.forward_sim.specs.References.Words.{Kept, Walked}
 use Rattle.forward_sim.proofs.WalkedSteps.{drop-step}
-use Rattle.programs.specs.Kept.{KeptProgram}
-use Rattle.programs.specs.Walks as walks
+use Rattle.circuit_walk.specs.Programs.{KeptProgram}
+use Rattle.circuit_walk.specs.Programs as walks
 use Rattle.step_model.specs.Listing.{Listing, ListedStep, Fault}
 use Rattle.step_model.specs.Runs.{RunState, next}
 use Rattle.step_model.specs.WellFormed.{IsWellFormed, step_fits}

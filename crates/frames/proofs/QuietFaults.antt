@@ -7,9 +7,8 @@ use Rattle.bit_rows.specs.Lanes.{lane, lane_bit}
 use Rattle.bit_rows.proofs.LaneLaws.{lane_bit-zero}
 use Rattle.forward_sim.proofs.PassedFaults.{behind_passed, faults_before-later}
 use Rattle.forward_sim.proofs.WalkedSteps.{drop-step}
-use Rattle.programs.specs.Kept.{KeptProgram}
-use Rattle.programs.specs.Turns.{faults_before}
-use Rattle.programs.specs.Walks.{ArePassed, Walked}
+use Rattle.circuit_walk.specs.Programs.{KeptProgram, Walked}
+use Rattle.circuit_walk.specs.Walks.{ArePassed, faults_before}
 use Rattle.run_laws.specs.Shifts.{carried_over}
 use Rattle.step_model.specs.Frames.{Frame}
 use Rattle.step_model.specs.Listing.{Listing, ListedStep, Fault, fault_word}

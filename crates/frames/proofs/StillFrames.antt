@@ -3,9 +3,8 @@ use Rattle.std.proofs.Common.{◌≡◌, ℕ, Bool, true, List, length, None, re
 use Rattle.std.proofs.lemmas.List as lists
 use Rattle.bit_rows.specs.Lanes.{lane, lane_bit}
 use Rattle.pauli_word.specs.Words.{no_letters}
-use Rattle.programs.specs.Listed.{listed}
-use Rattle.programs.specs.declared.step.Step.{Step}
-use Rattle.step_model.specs.declared.step.Term.{Term}
+use Rattle.circuit_walk.specs.Steps.{listed}
+use Rattle.circuit_walk.specs.declared.step.Step.{Step}
 use Rattle.step_model.specs.Frames.{Frame}
 use Rattle.step_model.specs.Listing.{Listing}
 use Rattle.frames.specs.Batches.{AreAtStart}
@@ -17,11 +16,11 @@ still-start f starts j =
     let word = ap (λ (v : Frame). v.word) (starts j) in
     word ∙ ap no_letters (sym (ap length word ∙ lists.length-replicate (length f.letters) _))
 
-pub goes_nowhere : (program : Listing) (products : List (List Term)) (faults : List ℕ) (runs : ℕ) (still : Bool) (step : Step) (f : LaneFrames)
+pub goes_nowhere : (program : Listing) (faults : List ℕ) (runs : ℕ) (still : Bool) (step : Step) (f : LaneFrames)
     → ChangesNothing faults still step → (still ≡ true → AreStill f)
-    → GoesTo f f (λ j v. followed program (lane j faults) None (lane_bit j runs) (listed program.qubits products step) v)
-goes_nowhere program products faults runs still step f quiet is_still = record {
+    → GoesTo f f (λ j v. followed program (lane j faults) None (lane_bit j runs) (listed program.qubits step) v)
+goes_nowhere program faults runs still step f quiet is_still = record {
   qubits = refl;
   room = refl;
-  frames = λ j. sym (quiet program products j (lane_bit j runs) (frame_in j f) (λ is. is_still is j));
+  frames = λ j. sym (quiet program j (lane_bit j runs) (frame_in j f) (λ is. is_still is j));
 }

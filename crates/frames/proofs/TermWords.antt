@@ -1,16 +1,17 @@
 -- A product of letters at qubits, letter by letter.
-use Rattle.std.proofs.Common.{◌≡◌, ℕ, ◌<◌, Bool, true, false, List, [], ◌∷◌, length, refl, sym, ap₂, ◌∙◌}
+use Rattle.std.proofs.Common.{◌≡◌, ℕ, ◌<◌, Bool, true, false, List, ◌∷◌, length, refl, sym, ap, ap₂, ◌∙◌}
 use Rattle.std.specs.Prelude.{not}
 use Rattle.std.specs.Bool.{beq}
 use Rattle.pauli_word.specs.declared.letter.Letter.{Letter}
 use Rattle.pauli_word.specs.Letters.{letters_clash}
 use Rattle.pauli_word.specs.Parity.{exclusive_or}
-use Rattle.pauli_word.specs.Words.{anticommute, letter_at, lone_letter, letters_product, no_letters}
-use Rattle.pauli_word.proofs.LoneLetters.{length-lone_letter, letters_product_of_no_letters}
-use Rattle.pauli_word.proofs.WordLaws.{letters_product_comm, anticommute_comm, anticommute-product}
+use Rattle.pauli_word.specs.Words.{anticommute, letter_at, lone_letter, letters_product}
+use Rattle.pauli_word.proofs.LoneLetters.{length-lone_letter}
+use Rattle.pauli_word.proofs.WordLaws.{letters_product_assoc, letters_product_comm, anticommute_comm, anticommute-product}
 use Rattle.step_model.specs.declared.step.Term.{Term}
 use Rattle.step_model.specs.Listing.{word_of_terms}
 use Rattle.step_model.proofs.StepNumbers.{length-word_of_terms}
+use Rattle.forward_sim.proofs.TermWords.{IsProductSoFar}
 use Rattle.run_laws.proofs.ShiftWords.{anticommute-lone}
 
 -- a word meets the first letter, and then those that are left
@@ -25,10 +26,14 @@ anticommute-term n w term terms size inside =
     (anticommute_comm lone w ∙ anticommute-lone w n term.qubit term.letter size inside)
     (anticommute_comm rest w))
 
--- one letter is a product
-pub word_of_one : (n q : ℕ) (a : Letter) → word_of_terms n (record { qubit = q; letter = a } ∷ []) ≡ lone_letter n q a
-word_of_one n q a =
-    letters_product_comm (lone_letter n q a) (no_letters n) ∙ letters_product_of_no_letters n (lone_letter n q a) (length-lone_letter n q a)
+-- the first letter goes from the word that is left into the word so far
+pub product_on : (n : ℕ) (term : Term) (rest terms : List Term) (w : List Letter) → IsProductSoFar n (term ∷ rest) terms w
+    → IsProductSoFar n rest terms (letters_product (lone_letter n term.qubit term.letter) w)
+product_on n term rest terms w so_far =
+    let lone = lone_letter n term.qubit term.letter in
+    ap (λ v. letters_product v (word_of_terms n rest)) (letters_product_comm lone w)
+    ∙ letters_product_assoc w lone (word_of_terms n rest)
+    ∙ so_far
 
 -- a parity that is turned where there is a clash
 pub turned : (odd clash rest : Bool) → exclusive_or (not (beq odd clash)) rest ≡ exclusive_or odd (exclusive_or clash rest)

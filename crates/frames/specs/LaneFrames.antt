@@ -4,11 +4,11 @@ use Rattle.std.specs.Prelude.{◌≡◌, ℕ, Bool, [], ◌∷◌, ◌++◌, Lis
 use Rattle.bit_rows.specs.Lanes.{lane}
 use Rattle.step_model.specs.Frames.{Frame}
 use Rattle.frames.specs.LaneLetters.{word_in}
-use Rattle.frames.specs.declared.letters.Letters.{Letters}
+use Rattle.frames.specs.declared.letters.LaneLetters.{LaneLetters}
 
 -- the letters of all runs at each qubit, a word of flips for each record so far, and for how many records there is room
 pub record LaneFrames : Type 0 where
-  pub letters : List Letters
+  pub letters : List LaneLetters
   pub flips : List ℕ
   pub room : ℕ
 

@@ -6,14 +6,14 @@ use Rattle.bit_rows.specs.Lanes.{lane_bit}
 use Rattle.pauli_word.specs.declared.letter.Letter.{Letter}
 use Rattle.pauli_word.specs.Bits.{letter_of}
 use Rattle.pauli_word.specs.Letters.{letter_product}
-use Rattle.frames.specs.declared.letters.Letters.{Letters}
+use Rattle.frames.specs.declared.letters.LaneLetters.{LaneLetters}
 
 -- the letter of run j
-unfoldable pub letter_in : ℕ → Letters → Letter
+unfoldable pub letter_in : ℕ → LaneLetters → Letter
 letter_in j letters = letter_of (lane_bit j letters.x) (lane_bit j letters.z)
 
 -- the Pauli word of run j, a letter a qubit
-abbrev pub word_in : ℕ → List Letters → List Letter
+abbrev pub word_in : ℕ → List LaneLetters → List Letter
 word_in j letters = map (letter_in j) letters
 
 -- a letter, multiplied by the letter a where b
@@ -21,5 +21,5 @@ abbrev pub times_where : Bool → Letter → Letter → Letter
 times_where b a letter = if b then letter_product a letter else letter
 
 -- I in each run
-abbrev pub none_at : Letters
+abbrev pub none_at : LaneLetters
 none_at = record { x = 0; z = 0 }

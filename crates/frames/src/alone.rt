@@ -7,7 +7,7 @@ ghost use Rattle.frames.specs.LaneFrames.{frame_in};
 use crate::frames::Frames;
 use crate::quiet::pass_quiet;
 use crate::steps::carry_over;
-use programs::{Program, Walk};
+use circuit_walk::{Program, Walk};
 use std::alloc::Allocator;
 
 /// Takes the frames of 64 runs over all steps of a program, with no run beside them.

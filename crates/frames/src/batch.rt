@@ -1,17 +1,19 @@
 ghost use Rattle.std.specs.Prelude.{◌≡◌, ◌<◌, ◌≤◌, ◌+◌, ℕ, false, length, slice_index_or, IfOk, IfErr};
 ghost use Rattle.bit_rows.specs.Lanes.{lane_bit};
 ghost use Rattle.step_model.specs.Faults.{memory_fault};
-ghost use Rattle.step_model.specs.Targets.{difference};
+ghost use Rattle.step_model.specs.Listing.{Listing};
+ghost use Rattle.step_model.specs.Targets.{difference, targets_of};
 ghost use Rattle.frames.specs.Batches.{AreRuns, DontCount, IsBatchOf, shot_records};
 
 use crate::follow::follow_steps;
 use crate::frames::Frames;
 use bit_rows::lanes::{bit, spread, xor};
+use circuit_walk::Program;
 use forward_sim::{Reference, Span};
-use programs::Program;
 use std::alloc::{AllocError, Allocator};
 use std::marker::Model;
 use step_model::Fault;
+use target_lists::TargetRecords;
 
 /// 64 runs (shots) of a program side by side, each with its own faults and coins: bit j of a word belongs to run j, the
 /// lowest bit to run 0. Each run is followed by its Pauli frame beside a reference run, whose records are made once. (A
@@ -118,18 +120,18 @@ impl<A: Allocator + Copy> Batch<A> {
     }
 
     /// In which runs the parity of a target differs from that in the reference run, a bit a run: detection events, and
-    /// flips of observables. Detectors are numbered first, then observables.
-    pub fn detections_word(&self, program: &Program<'_, A>, number: usize) -> u64
-        requires { number
-            < length program.now.listing.detectors + length program.now.listing.observables }
-        ensures { (j : ℕ)
+    /// flips of observables. Detectors are numbered first, then observables. `targets` are those of the program.
+    pub fn detections_word(&self, targets: &TargetRecords<A>, number: usize) -> u64
+        requires { number < length targets.now }
+        ensures { (program : Listing)
+            → targets.now ≡ targets_of program
+            → (j : ℕ)
             → lane_bit j result
             ≡ slice_index_or
-            (difference program.now.listing (shot_records j self.now)
-            self.now.reference.records)
+            (difference program (shot_records j self.now) self.now.reference.records)
             number false }
     {
-        self.frames.parity(program.target(number))
+        self.frames.parity(targets.get(number))
     }
 }
 

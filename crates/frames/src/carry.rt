@@ -5,8 +5,8 @@ ghost use Rattle.step_model.specs.Frames.{begun, flips_from, flips_of};
 
 use crate::collapses::go_past;
 use crate::frame::Frame;
+use circuit_walk::{Program, Walk};
 use pauli_word::Word;
-use programs::{Program, Walk};
 use std::alloc::{AllocError, Allocator};
 use step_model::{Cause, Fault, Place};
 

@@ -3,22 +3,22 @@
 ghost use Rattle.std.specs.Prelude.{◌≡◌, drop};
 ghost use Rattle.frames.specs.private.Passes.{made_after, Passes};
 
-use programs::{Program, Step, Walk};
+use circuit_walk::{Program, Step, Walk};
 use std::alloc::Allocator;
 
 /// A collapse that was gone over, and how many records there are after it.
 #[derive(Clone, Copy, Drop)]
-pub(crate) struct Passed {
-    pub(crate) step: Step,
+pub(crate) struct Passed<'c> {
+    pub(crate) step: Step<'c>,
     pub(crate) made: usize,
 }
 
 /// Goes forward from the start over the collapse of this number, or to the end where there is no such collapse.
-pub(crate) fn go_past<A: Allocator + Copy>(
+pub(crate) fn go_past<'a, A: Allocator + Copy>(
     program: &Program<'_, A>,
-    walk: &mut Walk<'_, '_, A>,
+    walk: &mut Walk<'a, '_, A>,
     collapse: u32,
-) -> Option<Passed>
+) -> Option<Passed<'a>>
     requires program { walk.old.program ≡ program.now }
     requires start { walk.old.place ≡ 0 }
     ensures program { walk.new.program ≡ program.now }
@@ -41,8 +41,8 @@ pub(crate) fn go_past<A: Allocator + Copy>(
 }
 
 // How many records there are after a step, by the number of the record that it makes.
-fn records_after(made: usize, step: Step) -> usize
-    ensures { result ≡ made_after made step }
+fn records_after(made: usize, step: Step<'_>) -> usize
+    ensures { result ≡ made_after made step.entry }
 {
     match step {
         Step::Collapse { rec: Some(r), .. } | Step::CollapseWord { rec: Some(r), .. } => r as usize

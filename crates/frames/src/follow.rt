@@ -9,8 +9,8 @@ ghost use Rattle.frames.specs.Batches.{AreAtStart};
 use crate::frames::Frames;
 use crate::quiet::pass_quiet;
 use crate::steps::{carry_over, take_step, word_at};
+use circuit_walk::{Program, Walk};
 use forward_sim::Reference;
-use programs::{Program, Walk};
 use std::alloc::Allocator;
 
 /// Takes the frames of 64 runs over all steps of a program, beside its reference run.

@@ -1,18 +1,20 @@
-ghost use Rattle.std.specs.Prelude.{◌≡◌, ◌<◌, [], ◌++◌, if◌then◌else◌, length, IfOk, OnOk, slice_index_or, slice_set, false};
+ghost use Rattle.std.specs.Prelude.{◌≡◌, ◌<◌, ◌++◌, if◌then◌else◌, length, IfOk, OnOk, slice_set, false};
 ghost use Rattle.pauli_word.specs.declared.letter.Letter.TheVariants.{I};
 ghost use Rattle.pauli_word.specs.Words.{anticommute, signed};
 ghost use Rattle.gate_table.specs.Images.{arity_of};
 ghost use Rattle.gate_table.specs.WordImages.{image_at, image_at_two};
-ghost use Rattle.programs.specs.Listed.{listed};
-ghost use Rattle.programs.specs.Named.{IsStepOf};
+ghost use Rattle.circuit_walk.specs.Letters.{AreSmall, letters_in};
+ghost use Rattle.circuit_walk.specs.Steps.{listed};
+ghost use Rattle.circuit_walk.specs.Named.{IsStepOf};
 ghost use Rattle.step_model.specs.Frames.{begun, carried};
 ghost use Rattle.step_model.specs.Listing.{word_of_terms};
+ghost use Rattle.step_model.specs.WellFormed.{TermsFit};
 ghost use Rattle.frames.specs.private.Flips.{fed_back, flip_of, recorded_flips};
 
 use crate::words::{anticommutes, multiply_at};
+use circuit_walk::{Letters, Program, Step};
 use gate_table::Gate;
 use pauli_word::{Letter, Word};
-use programs::{Program, Step};
 use std::alloc::{AllocError, Allocator};
 use std::marker::Model;
 
@@ -44,17 +46,17 @@ impl<A: Allocator + Copy> Frame<A> {
     pub(crate) fn carry(
         &mut self,
         program: &Program<'_, A>,
-        step: Step,
+        step: Step<'_>,
     ) -> Result<Option<bool>, AllocError>
         requires named { IsStepOf program.now step }
         requires size { length self.old.word ≡ program.now.listing.qubits }
         ensures flip { IfOk result (λ flip. flip
             ≡ flip_of program.now.listing.qubits self.old
-            (listed program.now.listing.qubits program.now.products step)) }
+            (listed program.now.listing.qubits step.entry)) }
         ensures carried { OnOk result
             (self.new
             ≡ carried program.now.listing.qubits
-            (listed program.now.listing.qubits program.now.products step) self.old) }
+            (listed program.now.listing.qubits step.entry) self.old) }
     {
         match step {
             Step::One { gate, q } => self.move_one(gate, q as usize),
@@ -71,12 +73,12 @@ impl<A: Allocator + Copy> Frame<A> {
                 self.clear(qubit as usize, reset);
                 return Ok(Some(flip));
             }
-            Step::CollapseWord { product, rec, .. } => {
-                let flip = self.meets(program, product);
+            Step::CollapseWord { letters, rec, .. } => {
+                let flip = self.meets(letters);
                 self.record(rec, flip)?;
                 return Ok(Some(flip));
             }
-            Step::Fault(_) => {}
+            Step::Fault { .. } => {}
             Step::Feedback { letter, q, rec } => self.feed_back(rec, q as usize, letter),
         }
         Ok(None)
@@ -105,17 +107,15 @@ impl<A: Allocator + Copy> Frame<A> {
         self.word.set_letter(b, second);
     }
 
-    // Whether the frame anticommutes with a product of the program.
-    fn meets(&self, program: &Program<'_, A>, product: u32) -> bool
-        requires there { product < length program.now.products }
-        requires size { length self.now.word ≡ program.now.listing.qubits }
+    // Whether the frame anticommutes with a product of letters at qubits.
+    fn meets(&self, letters: Letters<'_>) -> bool
+        requires small { AreSmall letters }
+        requires inside { TermsFit (length self.now.word) (letters_in letters) }
         ensures { result
             ≡ anticommute self.now.word
-            (word_of_terms program.now.listing.qubits
-            (slice_index_or program.now.products product [])) }
+            (word_of_terms (length self.now.word) (letters_in letters.entry)) }
     {
-        program.well_formed();
-        anticommutes(&self.word, program.product(product))
+        anticommutes(&self.word, letters)
     }
 
     // Notes whether a collapse's record is flipped, where the collapse makes one.

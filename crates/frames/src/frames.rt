@@ -2,6 +2,7 @@ ghost use Rattle.std.specs.Prelude.{◌≡◌, ◌<◌, ◌≤◌, ◌+◌, ℕ,
 ghost use Rattle.gate_table.specs.Images.{arity_of};
 ghost use Rattle.gate_table.specs.WordImages.{image_at, image_at_two};
 ghost use Rattle.bit_rows.specs.Lanes.{lane, lane_bit};
+ghost use Rattle.circuit_walk.specs.Letters.{AreSmall, letters_in};
 ghost use Rattle.forward_sim.specs.References.{terms_at, terms_in};
 ghost use Rattle.pauli_word.specs.declared.letter.Letter.TheVariants.{I};
 ghost use Rattle.pauli_word.specs.Words.{anticommute, letter_at, lone_letter, signed};
@@ -13,20 +14,20 @@ ghost use Rattle.frames.specs.LaneFrames.{GoesTo, with_record};
 ghost use Rattle.frames.specs.LaneLetters.{letter_in, word_in};
 ghost use Rattle.frames.specs.private.Followed.{multiplied_in};
 
-use crate::letters::{Letters, clear_all, multiply_letter};
+use crate::letters::{LaneLetters, clear_all, multiply_letter};
 use crate::steps::word_at;
 use bit_rows::lanes::xor;
+use circuit_walk::Letters;
 use forward_sim::ReplacedWord;
 use gate_table::Gate;
 use pauli_word::Letter;
 use std::alloc::{AllocError, Allocator};
 use std::marker::Model;
-use step_model::Term;
 
 /// The frames of 64 runs: their letters at each qubit, and a word of flips for each record so far.
 #[derive(Drop)]
 pub(crate) struct Frames<A: Allocator + Copy> {
-    letters: Vec<Letters, A>,
+    letters: Vec<LaneLetters, A>,
     flips: Vec<u64, A>,
 }
 
@@ -46,7 +47,7 @@ impl<A: Allocator + Copy> Frames<A> {
         ensures room { IfOk result (λ f. f.room ≡ records) }
     {
         let flips = Vec::with_capacity(alloc, records)?;
-        let letters = Vec::from_elem(alloc, Letters::none(), qubits)?;
+        let letters = Vec::from_elem(alloc, LaneLetters::none(), qubits)?;
         Ok(Frames { letters, flips })
     }
 
@@ -61,7 +62,7 @@ impl<A: Allocator + Copy> Frames<A> {
     }
 
     /// The letters at a qubit.
-    pub(crate) fn at(&self, qubit: usize) -> Letters
+    pub(crate) fn at(&self, qubit: usize) -> LaneLetters
         requires { qubit < length self.now.letters }
         ensures { (j : ℕ) → letter_in j result ≡ letter_at (word_in j self.now.letters) qubit }
     {
@@ -69,7 +70,7 @@ impl<A: Allocator + Copy> Frames<A> {
     }
 
     // Puts letters at a qubit.
-    fn put(&mut self, qubit: usize, letters: Letters)
+    fn put(&mut self, qubit: usize, letters: LaneLetters)
         requires { qubit < length self.old.letters }
         ensures { self.new
             ≡ record self.old { letters = slice_set self.old.letters qubit letters } }
@@ -96,7 +97,7 @@ impl<A: Allocator + Copy> Frames<A> {
         ensures { GoesTo self.old self.new (λ j v. record v
             { word = (image_at_two gate a b (signed v.word false)).letters }) }
     {
-        let (first, second) = Letters::images(gate, self.at(a), self.at(b));
+        let (first, second) = LaneLetters::images(gate, self.at(a), self.at(b));
         self.put(a, first);
         self.put(b, second);
     }
@@ -106,7 +107,7 @@ impl<A: Allocator + Copy> Frames<A> {
         requires { qubit < length self.old.letters }
         ensures { GoesTo self.old self.new (λ j v. record v { word = slice_set v.word qubit I }) }
     {
-        self.put(qubit, Letters::none());
+        self.put(qubit, LaneLetters::none());
     }
 
     /// Multiplies the frames of these runs by a letter at a qubit.
@@ -120,16 +121,17 @@ impl<A: Allocator + Copy> Frames<A> {
     }
 
     /// Multiplies the frames of these runs by a product of letters at qubits.
-    pub(crate) fn times_terms(&mut self, terms: &[Term], runs: u64)
-        requires { TermsFit (length self.old.letters) terms.now }
+    pub(crate) fn times_letters(&mut self, letters: Letters<'_>, runs: u64)
+        requires small { AreSmall letters }
+        requires inside { TermsFit (length self.old.letters) (letters_in letters) }
         ensures { GoesTo self.old self.new
-            (multiplied_in runs (word_of_terms (length self.old.letters) terms.now)) }
+            (multiplied_in runs
+            (word_of_terms (length self.old.letters) (letters_in letters.entry))) }
     {
-        let mut left = terms.len();
-        while left > 0 {
-            left -= 1;
-            let term = terms[left];
+        let mut left = letters;
+        while let Some((term, rest)) = left.split_first() {
             self.times(term.letter, term.qubit as usize, runs);
+            left = rest;
         }
     }
 
@@ -155,19 +157,19 @@ impl<A: Allocator + Copy> Frames<A> {
     }
 
     /// The runs whose frame anticommutes with a product of letters at qubits.
-    pub(crate) fn meet(&self, terms: &[Term]) -> u64
-        requires { TermsFit (length self.now.letters) terms.now }
+    pub(crate) fn meet(&self, letters: Letters<'_>) -> u64
+        requires small { AreSmall letters }
+        requires inside { TermsFit (length self.now.letters) (letters_in letters) }
         ensures { (j : ℕ)
             → lane_bit j result
             ≡ anticommute (word_in j self.now.letters)
-            (word_of_terms (length self.now.letters) terms.now) }
+            (word_of_terms (length self.now.letters) (letters_in letters.entry)) }
     {
         let mut odd = 0;
-        let mut left = terms.len();
-        while left > 0 {
-            left -= 1;
-            let term = terms[left];
-            odd = xor(self.at(term.qubit as usize).clashes(term.letter), odd);
+        let mut left = letters;
+        while let Some((term, rest)) = left.split_first() {
+            odd = xor(odd, self.at(term.qubit as usize).clashes(term.letter));
+            left = rest;
         }
         odd
     }

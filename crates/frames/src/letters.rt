@@ -17,18 +17,18 @@ use pauli_word::Letter;
 
 /// The letters of 64 runs at one qubit, as their bits x and z.
 #[derive(Clone, Copy, Drop)]
-pub(crate) struct Letters {
+pub(crate) struct LaneLetters {
     pub(crate) x: u64,
     pub(crate) z: u64,
 }
 
-impl Letters {
+impl LaneLetters {
     /// I in each run.
-    pub(crate) fn none() -> Letters
+    pub(crate) fn none() -> LaneLetters
         ensures same { result ≡ none_at }
         ensures letters { (j : ℕ) → letter_in j result ≡ I }
     {
-        Letters { x: 0, z: 0 }
+        LaneLetters { x: 0, z: 0 }
     }
 
     /// The runs whose letter clashes with this one.
@@ -46,28 +46,28 @@ impl Letters {
     /// The letters, multiplied by this one in these runs. There is no branch on the letter, since the letters of a word
     /// come in no order that could be predicted.
     #[inline(always)]
-    pub(crate) fn times(self, letter: Letter, runs: u64) -> Letters
+    pub(crate) fn times(self, letter: Letter, runs: u64) -> LaneLetters
         ensures { (j : ℕ)
             → letter_in j result ≡ times_where (lane_bit j runs) letter (letter_in j self) }
     {
-        Letters {
+        LaneLetters {
             x: xor(self.x, lanes_where(has_x(letter), runs)),
             z: xor(self.z, lanes_where(has_z(letter), runs)),
         }
     }
 
     /// The images under a gate of one qubit, their signs left out.
-    pub(crate) fn image(self, gate: Gate) -> Letters
+    pub(crate) fn image(self, gate: Gate) -> LaneLetters
         requires { arity_of gate ≡ 1 }
         ensures { (j : ℕ) → letter_in j result ≡ (image1 gate (letter_in j self)).0 }
     {
         let (x, _) = gate.image1(Letter::X);
         let (z, _) = gate.image1(Letter::Z);
-        Letters::none().times_images(self, x, z)
+        LaneLetters::none().times_images(self, x, z)
     }
 
     /// The images of the letters of two qubits under a gate of two qubits, their signs left out.
-    pub(crate) fn images(gate: Gate, a: Letters, b: Letters) -> (Letters, Letters)
+    pub(crate) fn images(gate: Gate, a: LaneLetters, b: LaneLetters) -> (LaneLetters, LaneLetters)
         requires { arity_of gate ≡ 2 }
         ensures first { (j : ℕ)
             → letter_in j result.0 ≡ (image2 gate (letter_in j a) (letter_in j b)).0 }
@@ -78,8 +78,8 @@ impl Letters {
         let (az, bz, _) = gate.image2(Letter::Z, Letter::I);
         let (ax_of_b, bx_of_b, _) = gate.image2(Letter::I, Letter::X);
         let (az_of_b, bz_of_b, _) = gate.image2(Letter::I, Letter::Z);
-        let first = Letters::none().times_images(a, ax, az);
-        let second = Letters::none().times_images(a, bx, bz);
+        let first = LaneLetters::none().times_images(a, ax, az);
+        let second = LaneLetters::none().times_images(a, bx, bz);
         (
             first.times_images(b, ax_of_b, az_of_b),
             second.times_images(b, bx_of_b, bz_of_b),
@@ -87,7 +87,7 @@ impl Letters {
     }
 
     // The letters, multiplied by the images of others under a map that makes `x` of X and `z` of Z.
-    fn times_images(self, others: Letters, x: Letter, z: Letter) -> Letters
+    fn times_images(self, others: LaneLetters, x: Letter, z: Letter) -> LaneLetters
         ensures { (j : ℕ)
             → letter_in j result
             ≡ times_where (lane_bit j others.z) z
@@ -120,16 +120,21 @@ fn lanes_where(some: bool, lanes: u64) -> u64
 }
 
 /// Makes the letters I at each qubit.
-pub(crate) fn clear_all(letters: &mut [Letters])
+pub(crate) fn clear_all(letters: &mut [LaneLetters])
     ensures { letters.new ≡ replicate (length letters.old) none_at }
 {
-    letters.fill(Letters::none());
+    letters.fill(LaneLetters::none());
 }
 
 /// Multiplies by a letter, in these runs, the letters at each of these qubits. It is lent the letters
 /// alone, so that the loop keeps their address in a register.
 #[inline(always)]
-pub(crate) fn multiply_letter(letters: &mut [Letters], letter: Letter, qubits: &[u16], runs: u64)
+pub(crate) fn multiply_letter(
+    letters: &mut [LaneLetters],
+    letter: Letter,
+    qubits: &[u16],
+    runs: u64,
+)
     requires { TermsFit (length letters.old) (terms_at letter qubits.now) }
     ensures { GoesTo (letters_alone letters.old) (letters_alone letters.new)
         (multiplied_in runs (word_of_terms (length letters.old) (terms_at letter qubits.now))) }

@@ -1,19 +1,19 @@
 ghost use Rattle.std.specs.Prelude.{◌≡◌, ℕ, Some, length, IfOk, IfErr};
 ghost use Rattle.step_model.specs.Faults.{memory_fault};
 ghost use Rattle.step_model.specs.Frames.{first_word, zero_coins, pair_coins};
-ghost use Rattle.programs.specs.Listed.{listed};
-ghost use Rattle.programs.specs.Named.{IsStepOf};
+ghost use Rattle.circuit_walk.specs.Steps.{listed};
+ghost use Rattle.circuit_walk.specs.Named.{IsStepOf};
 ghost use Rattle.step_model.specs.Sensitivities.{place_of, collapse_word};
 ghost use Rattle.frames.specs.Pairs.{PairDiffers};
 
 use crate::carry::flips_at;
 use crate::collapses::go_past;
-use crate::words::product_of;
+use crate::words::{lone_word, product_of};
+use circuit_walk::{Program, Step, Walk};
 use pauli_word::{Letter, Word};
-use programs::{Program, Step, Walk};
 use run_laws::shift::pair_disagrees;
 use std::alloc::{AllocError, Allocator};
-use step_model::{Cause, Fault, Place, Term};
+use step_model::{Cause, Fault, Place};
 
 /// The two coin lists of a place of the program, a coin for each collapse. The first is all zeros. The second is the
 /// flips of the frame that begins at the place: as the word that the place's collapse measures, or as Z at the place's
@@ -81,14 +81,7 @@ fn word_at<A: Allocator + Copy>(
     match place {
         Place::Start(qubit) => {
             if qubit < program.qubits() {
-                product_of(
-                    alloc,
-                    qubits,
-                    &[Term {
-                        qubit,
-                        letter: Letter::Z,
-                    }],
-                )
+                lone_word(alloc, qubits, qubit as usize, Letter::Z)
             } else {
                 Word::identity(alloc, qubits)
             }
@@ -107,23 +100,19 @@ fn word_at<A: Allocator + Copy>(
 fn word_measured<A: Allocator + Copy>(
     alloc: A,
     program: &Program<'_, A>,
-    step: Step,
+    step: Step<'_>,
 ) -> Result<Word<A>, AllocError>
     requires { IsStepOf program.now step }
     ensures word { IfOk result (λ word. word.letters
         ≡ collapse_word program.now.listing.qubits
-        (listed program.now.listing.qubits program.now.products step)) }
+        (listed program.now.listing.qubits step.entry)) }
     ensures size { IfOk result (λ word. length word.letters ≡ program.now.listing.qubits) }
 {
     program.well_formed();
     let qubits = program.qubits() as usize;
     match step {
-        Step::Collapse { letter, qubit, .. } => product_of(
-            alloc,
-            qubits,
-            &[Term { qubit, letter }],
-        ),
-        Step::CollapseWord { product, .. } => product_of(alloc, qubits, program.product(product)),
+        Step::Collapse { letter, qubit, .. } => lone_word(alloc, qubits, qubit as usize, letter),
+        Step::CollapseWord { letters, .. } => product_of(alloc, qubits, letters),
         _ => Word::identity(alloc, qubits),
     }
 }

@@ -6,15 +6,15 @@ ghost use Rattle.forward_sim.specs.Drawn.{bounds_of};
 ghost use Rattle.frames.specs.Carried.{NoneRandom};
 ghost use Rattle.frames.specs.Sampled.{detection_line, shots_text};
 ghost use Rattle.frames.specs.Shown.{shown_line};
-ghost use Rattle.frames.specs.private.Followers.{Follows, Shows};
+ghost use Rattle.frames.specs.private.Followers.{Follows, kind_of};
 ghost use Rattle.frames.specs.private.ShownRuns.{DontShow};
 ghost use Rattle.frames.specs.private.WritesShots.{WritesShots};
 
 use crate::batches::write_batches;
 use crate::follower::Follower;
 use crate::side_runs::{Shown, SideRuns, count};
+use circuit_walk::Program;
 use forward_sim::Shots;
-use programs::Program;
 use std::alloc::{AllocError, Allocator};
 use step_model::{Fault, Sink};
 
@@ -38,7 +38,7 @@ pub fn write_shots<W: Sink, A: Allocator + Copy>(
         (TakesSome (W.taken sink.old) (W.taken sink.new)
         (shots_text (shown_line shown) shots seed program.now.listing)) }
 {
-    let mut follower = Follower::beside(alloc, program)?;
+    let mut follower = Follower::beside(alloc, program, shown)?;
     write_followed(alloc, program, &mut follower, shown, shots, seed, sink)
 }
 
@@ -84,7 +84,7 @@ fn write_followed<W: Sink, A: Allocator + Copy>(
     sink: &mut W,
 ) -> Result<(), Fault>
     requires follows { Follows program.now.listing follower.old }
-    requires shows { Shows shown follower.old }
+    requires kind { kind_of follower.old ≡ shown }
     ensures { WritesShots W.taken W.failures sink.old sink.new
         (shots_text (shown_line shown) shots seed program.now.listing) result }
 {
@@ -107,7 +107,7 @@ fn write_drawn<W: Sink, A: Allocator + Copy>(
     sink: &mut W,
 ) -> Result<(), Fault>
     requires follows { Follows program.now.listing follower.old }
-    requires shows { Shows shown follower.old }
+    requires kind { kind_of follower.old ≡ shown }
     requires bounds { drawn.old.bounds ≡ bounds_of program.now.listing }
     requires coins { length drawn.old.coins ≡ program.now.listing.collapses }
     requires passed { DontShow shown program.now.listing drawn.old.passed }
@@ -116,7 +116,7 @@ fn write_drawn<W: Sink, A: Allocator + Copy>(
 {
     let mut words = vec![in alloc; 0u64; count(program, shown)]?;
     let mut room = room_for(alloc, &words)?;
-    let mut runs = SideRuns::new(program, follower, shown, &mut words);
+    let mut runs = SideRuns::new(program, follower, &mut words);
     write_batches(drawn, &mut runs, &mut room, shots, seed, sink)
 }
 

@@ -1,11 +1,12 @@
 //! Runs of a program, 64 side by side, of which the records or the detections are shown.
 ghost use Rattle.std.specs.Prelude.{◌≡◌, ◌<◌, ℕ, false, length, slice_index, slice_index_or};
 ghost use Rattle.bit_rows.specs.Lanes.{lane, lane_bit};
-ghost use Rattle.frames.specs.private.Followers.{Follows, Shows, shown_by};
+ghost use Rattle.step_model.specs.Listing.{Listing};
+ghost use Rattle.frames.specs.private.Followers.{Follows, kind_of, value_count, shown_by};
 ghost use Rattle.frames.specs.private.ShownRuns.{shown_count, shown_of};
 
 use crate::follower::Follower;
-use programs::Program;
+use circuit_walk::Program;
 use std::alloc::Allocator;
 use std::marker::Model;
 
@@ -24,41 +25,38 @@ pub enum Shown {
 pub(crate) struct SideRuns<'b, 'p, A: Allocator + Copy> {
     program: &'b Program<'p, A>,
     follower: &'b mut Follower<A>,
-    shown: Shown,
     words: &'b mut [u64],
 }
 
 impl<'b, 'p, A: Allocator + Copy> Model for SideRuns<'b, 'p, A> {
     ghost use Rattle.std.specs.Prelude.{◌≡◌, length};
-    ghost use Rattle.frames.specs.private.Followers.{Follows, Shows};
+    ghost use Rattle.frames.specs.private.Followers.{Follows, kind_of};
     ghost use Rattle.frames.specs.private.ShownRuns.{ShownRuns, shown_count};
 
     ghost Value = { ShownRuns };
 
-    ghost view = { λ r. record { program = r.program.now.listing; shown = r.shown; words = r.words.now } };
+    ghost view = { λ r. record { program = r.program.now.listing; shown = kind_of r.follower.now; words = r.words.now } };
 
-    ghost invariant = { λ r. Follows r.program.now.listing r.follower.now × Shows r.shown r.follower.now × (length r.words.now ≡ shown_count r.shown r.program.now.listing) };
+    ghost invariant = { λ r. Follows r.program.now.listing r.follower.now × (length r.words.now ≡ shown_count (kind_of r.follower.now) r.program.now.listing) };
 }
 
 impl<'b, 'p, A: Allocator + Copy> SideRuns<'b, 'p, A> {
-    /// Runs of a program, followed by what shows this of them, with a word for each truth value that is shown.
+    /// Runs of a program, with what follows them, and a word for each truth value that this shows.
     pub(crate) fn new(
         program: &'b Program<'p, A>,
         follower: &'b mut Follower<A>,
-        shown: Shown,
         words: &'b mut [u64],
     ) -> Self
         requires follows { Follows program.now.listing follower.now }
-        requires shows { Shows shown follower.now }
-        requires words { length words.now ≡ shown_count shown program.now.listing }
+        requires words { length words.now
+            ≡ shown_count (kind_of follower.now) program.now.listing }
         ensures program { result.program ≡ program.now.listing }
-        ensures shown { result.shown ≡ shown }
+        ensures shown { result.shown ≡ kind_of follower.entry.now }
         ensures words { result.words ≡ words.entry.now }
     {
         SideRuns {
             program,
             follower,
-            shown,
             words,
         }
     }
@@ -77,7 +75,7 @@ impl<'b, 'p, A: Allocator + Copy> SideRuns<'b, 'p, A> {
     {
         self.program.well_formed();
         self.follower.follow(self.program, faults, coins);
-        fill(self.words, self.follower, self.program, self.shown);
+        fill(self.words, self.follower);
     }
 
     /// What is shown of the runs made last: a word for each truth value, whose bit j belongs to run j.
@@ -99,24 +97,19 @@ pub(crate) fn count<A: Allocator + Copy>(program: &Program<'_, A>, shown: Shown)
 }
 
 /// What is shown of all runs, a word for each truth value.
-fn fill<A: Allocator + Copy>(
-    words: &mut [u64],
-    follower: &Follower<A>,
-    program: &Program<'_, A>,
-    shown: Shown,
-)
-    requires follows { Follows program.now.listing follower.now }
-    requires shows { Shows shown follower.now }
-    requires words { length words.old ≡ shown_count shown program.now.listing }
+fn fill<A: Allocator + Copy>(words: &mut [u64], follower: &Follower<A>)
+    requires { length words.old ≡ value_count follower.now }
     ensures size { length words.new ≡ length words.old }
-    ensures filled { (index : ℕ)
+    ensures filled { (program : Listing)
+        → Follows program follower.now
+        → (index : ℕ)
         → index < length words.old
         → (j : ℕ)
         → j < 64
         → lane_bit j (slice_index words.new index)
-        ≡ slice_index_or (shown_by shown program.now.listing j follower.now) index false }
+        ≡ slice_index_or (shown_by program j follower.now) index false }
 {
     for index in 0..words.len() {
-        words[index] = follower.word(program, shown, index);
+        words[index] = follower.word(index);
     }
 }

@@ -2,8 +2,9 @@ ghost use Rattle.std.specs.Prelude.{◌≡◌, ◌<◌, ◌≤◌, ◌+◌, ℕ,
 ghost use Rattle.bit_rows.specs.Lanes.{lane, lane_bit};
 ghost use Rattle.pauli_word.specs.Parity.{exclusive_or};
 ghost use Rattle.pauli_word.specs.Words.{lone_letter};
-ghost use Rattle.programs.specs.Listed.{listed, number_of};
-ghost use Rattle.programs.specs.Named.{IsStepOf};
+ghost use Rattle.circuit_walk.specs.Letters.{AreSmall, letters_in};
+ghost use Rattle.circuit_walk.specs.Steps.{listed, number_of};
+ghost use Rattle.circuit_walk.specs.Named.{IsStepOf};
 ghost use Rattle.step_model.specs.Listing.{word_of_terms, step_records};
 ghost use Rattle.step_model.specs.Runs.{flip_happens};
 ghost use Rattle.step_model.specs.WellFormed.{TermsFit};
@@ -12,11 +13,10 @@ ghost use Rattle.frames.specs.LaneFrames.{GoesTo};
 
 use crate::frames::Frames;
 use bit_rows::lanes::xor;
+use circuit_walk::{FaultName, Letters, Program, Step};
 use forward_sim::ReplacedWord;
 use pauli_word::Letter;
-use programs::{FaultName, Program, Step};
 use std::alloc::Allocator;
-use step_model::Term;
 
 /// Takes the frames of 64 runs over a step of a program. Lane j of `faults` says which faults happen in run j. At a
 /// collapse, `coins` has a coin for each run, and `replaced` is what the reference run keeps of the collapse.
@@ -26,18 +26,18 @@ pub(crate) fn take_step<A: Allocator + Copy>(
     faults: &[u64],
     replaced: Option<ReplacedWord<'_>>,
     coins: u64,
-    step: Step,
+    step: Step<'_>,
 )
     requires of_program { IsStepOf program.now step }
     requires qubits { length frames.old.letters ≡ program.now.listing.qubits }
     requires room { length frames.old.flips + length
-        (step_records (listed program.now.listing.qubits program.now.products step))
+        (step_records (listed program.now.listing.qubits step))
         ≤ frames.old.room }
     requires turns { TurnsAt program.now.listing.qubits (terms_of replaced)
-        (listed program.now.listing.qubits program.now.products step) }
+        (listed program.now.listing.qubits step) }
     ensures { GoesTo frames.old frames.new (λ j v. followed program.now.listing (lane j faults.now)
         (terms_of replaced.entry) (lane_bit j coins)
-        (listed program.now.listing.qubits program.now.products step) v) }
+        (listed program.now.listing.qubits step.entry) v) }
 {
     program.well_formed();
     match step {
@@ -55,19 +55,16 @@ pub(crate) fn take_step<A: Allocator + Copy>(
             frames.record(rec, xor(flips, flips_of(faults, flip)));
         }
         Step::CollapseWord {
-            product,
+            letters,
             rec,
             flip,
             ..
         } => {
-            let flips = collapse_product(frames, replaced, coins, program.product(product));
+            let flips = collapse_product(frames, replaced, coins, letters);
             frames.record(rec, xor(flips, flips_of(faults, flip)));
         }
-        Step::Fault(name) => {
-            frames.times_terms(
-                program.entry_terms(name.entry),
-                word_at(faults, name.number as usize),
-            );
+        Step::Fault { name, letters } => {
+            frames.times_letters(letters, word_at(faults, name.number as usize));
         }
         Step::Feedback { letter, q, rec } => {
             let runs = frames.flips(rec as usize);
@@ -84,17 +81,17 @@ pub(crate) fn carry_over<A: Allocator + Copy>(
     program: &Program<'_, A>,
     faults: &[u64],
     still: bool,
-    step: Step,
+    step: Step<'_>,
 ) -> bool
     requires of_program { IsStepOf program.now step }
     requires qubits { length frames.old.letters ≡ program.now.listing.qubits }
     requires room { length frames.old.flips + length
-        (step_records (listed program.now.listing.qubits program.now.products step))
+        (step_records (listed program.now.listing.qubits step))
         ≤ frames.old.room }
     requires still { still ≡ true → AreStill frames.old }
     ensures goes { GoesTo frames.old frames.new (λ j v. followed program.now.listing
         (lane j faults.now) None (lane_bit j 0)
-        (listed program.now.listing.qubits program.now.products step) v) }
+        (listed program.now.listing.qubits step.entry) v) }
     ensures still { result ≡ true → AreStill frames.new }
 {
     if is_quiet(faults, still, step) {
@@ -107,12 +104,12 @@ pub(crate) fn carry_over<A: Allocator + Copy>(
 /// Whether a step that is no collapse leaves all frames as they are: a fault that happens in none of the runs, as most
 /// do, or a gate where `still`, which says that all frames are I.
 #[inline(always)]
-pub(crate) fn is_quiet(faults: &[u64], still: bool, step: Step) -> bool
-    ensures { IsTrue result → ChangesNothing faults.now still step }
+pub(crate) fn is_quiet(faults: &[u64], still: bool, step: Step<'_>) -> bool
+    ensures { IsTrue result → ChangesNothing faults.now still step.entry }
 {
     match step {
         Step::One { .. } | Step::Two { .. } => still,
-        Step::Fault(name) => word_at(faults, name.number as usize) == 0,
+        Step::Fault { name, .. } => word_at(faults, name.number as usize) == 0,
         _ => false,
     }
 }
@@ -149,20 +146,21 @@ fn collapse_product<A: Allocator + Copy>(
     frames: &mut Frames<A>,
     replaced: Option<ReplacedWord<'_>>,
     coins: u64,
-    terms: &[Term],
+    letters: Letters<'_>,
 ) -> u64
-    requires inside { TermsFit (length frames.old.letters) terms.now }
+    requires small { AreSmall letters }
+    requires inside { TermsFit (length frames.old.letters) (letters_in letters) }
     requires turns { Turns (length frames.old.letters) (terms_of replaced)
-        (word_of_terms (length frames.old.letters) terms.now) }
+        (word_of_terms (length frames.old.letters) (letters_in letters)) }
     ensures moved { GoesTo frames.old frames.new
         (turned_in (length frames.old.letters) (terms_of replaced.entry) coins
-        (word_of_terms (length frames.old.letters) terms.now)) }
+        (word_of_terms (length frames.old.letters) (letters_in letters.entry))) }
     ensures flips { (j : ℕ)
         → lane_bit j result
         ≡ flips_in (length frames.old.letters) (terms_of replaced.entry) coins
-        (word_of_terms (length frames.old.letters) terms.now) frames.old j }
+        (word_of_terms (length frames.old.letters) (letters_in letters.entry)) frames.old j }
 {
-    let met = frames.meet(terms);
+    let met = frames.meet(letters);
     turn(frames, replaced, coins, met)
 }
 

@@ -8,7 +8,7 @@ use crate::ascending::{ascends, make_ascend};
 use crate::listed_targets::ListedTargets;
 use crate::record_lists::RecordLists;
 use crate::targets::target_count;
-use programs::Program;
+use circuit_walk::Program;
 use std::alloc::{AllocError, Allocator};
 use std::marker::Model;
 use std::mem;

@@ -6,10 +6,11 @@ ghost use Rattle.record_targets.specs.ListingSets.{listing_sets};
 ghost use Rattle.step_model.specs.TargetSets.{row_of_set};
 
 use crate::targets::target_count;
+use circuit_walk::Program;
 use flat_lists::FlatLists;
-use programs::Program;
 use std::alloc::{AllocError, Allocator};
 use std::marker::Model;
+use target_lists::TargetRecords;
 
 /// For each record the set of the targets that list it an odd number of times.
 ///
@@ -36,11 +37,12 @@ impl<A: Allocator + Copy> ListedTargets<A> {
     pub(crate) fn new<'a>(alloc: A, program: &Program<'a, A>) -> Result<Self, AllocError>
         ensures { IfOk result (λ listed. listed ≡ listing_sets program.now.listing []) }
     {
+        let records = TargetRecords::of(alloc, program)?;
         let mut marks = Vec::from_elem(alloc, 0, program.record_count() as usize)?;
-        count_all(&mut marks, program)?;
+        count_all(&mut marks, program, &records)?;
         let count = set_starts(&mut marks)?;
         let mut numbers = Vec::from_elem(alloc, 0, count as usize)?;
-        put_all(&mut marks, &mut numbers, program);
+        put_all(&mut marks, &mut numbers, program, &records);
         Ok(ListedTargets {
             targets: target_count(program),
             lists: FlatLists::cut(numbers, marks),
@@ -71,13 +73,16 @@ impl<A: Allocator + Copy> ListedTargets<A> {
 fn count_all<'a, A: Allocator + Copy>(
     counts: &mut Vec<u32, A>,
     program: &Program<'a, A>,
+    records: &TargetRecords<A>,
 ) -> Result<(), AllocError>
-    requires { counts.old.items ≡ replicate program.now.listing.records 0 }
+    requires counts { counts.old.items ≡ replicate program.now.listing.records 0 }
+    requires records { records.now ≡ targets_of program.now.listing }
     ensures counts { OnOk result (AreCounts (left_from program.now.listing 0) counts.new.items) }
     ensures len { length counts.new.items ≡ program.now.listing.records }
 {
+    program.well_formed();
     for t in 0..target_count(program) {
-        count_each(counts, program.target(t))?;
+        count_each(counts, records.get(t))?;
     }
     Ok(())
 }
@@ -134,13 +139,15 @@ fn put_all<'a, A: Allocator + Copy>(
     marks: &mut Vec<u32, A>,
     numbers: &mut Vec<u32, A>,
     program: &Program<'a, A>,
+    records: &TargetRecords<A>,
 )
-    requires { ArePut program.now.listing 0 marks.old.items numbers.old.items }
+    requires put { ArePut program.now.listing 0 marks.old.items numbers.old.items }
+    requires records { records.now ≡ targets_of program.now.listing }
     ensures { ArePut program.now.listing (length (targets_of program.now.listing)) marks.new.items
         numbers.new.items }
 {
     for t in 0..target_count(program) {
-        put_target(marks, numbers, program, t as u32);
+        put_target(marks, numbers, program, records, t as u32);
     }
 }
 
@@ -148,13 +155,16 @@ fn put_target<'a, A: Allocator + Copy>(
     marks: &mut Vec<u32, A>,
     numbers: &mut Vec<u32, A>,
     program: &Program<'a, A>,
+    records: &TargetRecords<A>,
     target: u32,
 )
     requires there { target < length (targets_of program.now.listing) }
     requires put { ArePut program.now.listing target marks.old.items numbers.old.items }
+    requires records { records.now ≡ targets_of program.now.listing }
     ensures { ArePut program.now.listing (target + 1) marks.new.items numbers.new.items }
 {
-    let named = program.target(target as usize);
+    program.well_formed();
+    let named = records.get(target as usize);
     for rec in named {
         let mark = marks[*rec as usize];
         numbers[mark as usize] = target;

@@ -2,7 +2,7 @@
 ghost use Rattle.std.specs.Prelude.{◌≡◌, ◌≤◌, length};
 ghost use Rattle.step_model.specs.Targets.{targets_of};
 
-use programs::Program;
+use circuit_walk::Program;
 use std::alloc::Allocator;
 
 /// How many detectors and observables there are.

@@ -20,8 +20,8 @@ use Rattle.unroll.specs.private.MadeTotals.{record_count, record_total}
 use Rattle.circuit_walk.specs.Meaning.{after, at_start, listing_of, made_of}
 use Rattle.circuit_walk.specs.Refusals.{first_observable_beyond, first_far_line, has_many_detectors, has_many_records, has_many_steps, is_before_start, most_collapses, most_detectors, most_records, of_circuit, reaches_far, circuit_refusal}
 use Rattle.circuit_walk.specs.Totals.{qubit_total}
+use Rattle.unroll.proofs.ListedTotals.{lengths}
 use Rattle.unroll.proofs.MadeCounts.{after-records, after_all, after_all-records, made_of-append}
-use Rattle.unroll.proofs.MeaningLemmas.{collapses_made, detectors_made, records_made}
 use Rattle.unroll.proofs.ReachedCounts.{sum-copies, sum-reached}
 use Rattle.unroll.proofs.RefusalLemmas.{neither}
 
@@ -135,7 +135,7 @@ refusal_by t far records detectors =
 pub refused-as-counted : (t : Tree) → AllFit t → refusal_counted t ≡ circuit_refusal t
 refused-as-counted t fit =
     let far : first_far_line t ≡ first_far_from 0 t = far-tree (qubit_total t) at_start t fit in
-    let records : has_many_records (listing_of t) ≡ counts_many_records t = ap₂ (λ r k. nat_lt most_records r || nat_lt most_collapses k) (records_made t) (collapses_made t) in
-    let detectors : has_many_detectors (listing_of t) ≡ counts_many_detectors t = ap (nat_lt most_detectors) (detectors_made t) in
+    let records : has_many_records (listing_of t) ≡ counts_many_records t = ap₂ (λ r k. nat_lt most_records r || nat_lt most_collapses k) (lengths t).records (lengths t).collapses in
+    let detectors : has_many_detectors (listing_of t) ≡ counts_many_detectors t = ap (nat_lt most_detectors) (lengths t).detectors in
     sym (ap (λ f. refusal_by t f (has_many_records (listing_of t)) (has_many_detectors (listing_of t))) far
     ∙ ap₂ (refusal_by t (first_far_from 0 t)) records detectors)

@@ -1,6 +1,5 @@
 -- The numbers of an instruction's targets, as steps and totals take them.
-use Rattle.std.proofs.Common.{◌≡◌, ◌≤◌, List, ◌∷◌, subst, arith}
-use Rattle.std.proofs.lemmas.List.Elements.{All-head, All-tail}
+use Rattle.std.proofs.Common.{◌≤◌, arith}
 use Rattle.std.specs.Prelude.{All}
 use Rattle.stim_parser.specs.declared.target.Target.{Target}
 use Rattle.stim_parser.specs.declared.target.Target.TheVariants.{Plain, Inverted, Back, Pauli, Star}
@@ -8,7 +7,7 @@ use Rattle.stim_parser.specs.Circuits.{Fits}
 use Rattle.stim_parser.specs.Verdicts.{Instruction}
 use Rattle.stim_parser.proofs.TargetNumbers.{IsWithin, targets_within}
 use Rattle.stim_parser.specs.Numbers.{most_qubits}
-use Rattle.unroll.specs.private.Pushed.{back_of, IsSmall}
+use Rattle.unroll.specs.private.Pushed.{back_of}
 use Rattle.circuit_walk.specs.Totals.{qubits_to}
 
 qubit_within : (t : Target) → IsWithin t → qubits_to t ≤ most_qubits
@@ -30,16 +29,3 @@ qubits_within i fits = λ k d lt. qubit_within _ (targets_within i fits k d lt)
 
 pub backs_within : (i : Instruction) → Fits i → All (λ t. back_of t ≤ 999_999_999_999_999_999) i.targets
 backs_within i fits = λ k d lt. back_within _ (targets_within i fits k d lt)
-
--- the first target that is cut off, and those that follow
-pub first_small : (ts : List Target) (a : Target) (rest : List Target) → All IsSmall ts → ts ≡ a ∷ rest → IsSmall a × All IsSmall rest
-first_small ts a rest h e =
-    let all : All IsSmall (a ∷ rest) = subst (All IsSmall) e h in
-    (All-head IsSmall a rest all, All-tail IsSmall a rest all)
-
--- the two targets of a pair that is cut off, and those that follow
-pub pair_small : (ts : List Target) (a : Target) (others : List Target) (b : Target) (rest : List Target) → All IsSmall ts → ts ≡ a ∷ others → others ≡ b ∷ rest → IsSmall a × IsSmall b × All IsSmall rest
-pair_small ts a others b rest h e f =
-    let all : All IsSmall (a ∷ others) = subst (All IsSmall) e h in
-    let more : All IsSmall (b ∷ rest) = subst (All IsSmall) f (All-tail IsSmall a others all) in
-    (All-head IsSmall a others all, All-head IsSmall b rest more, All-tail IsSmall b rest more)

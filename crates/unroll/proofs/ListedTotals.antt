@@ -1,8 +1,7 @@
 -- What a circuit lists is as long as its totals say: each instruction makes as many records, collapses, faults, steps and detectors
 -- as it counts for, and so do all that are reached.
-use Rattle.std.proofs.Common.{◌≡◌, ◌≤◌, ◌+◌, ◌*◌, ◌/◌, ◌==◌, ℕ, zero, suc, Bool, true, false, if◌then◌else◌, List, [], ◌∷◌, ◌++◌, length, length-append, map, is_some, refl, sym, ap, ◌∙◌, arith}
-use Rattle.std.specs.Prelude.{slice_get}
-use Rattle.std.specs.List.{filter, flat_map, range_with_len, sum_by}
+use Rattle.std.proofs.Common.{◌≡◌, ◌+◌, ◌*◌, ◌/◌, ◌==◌, ℕ, Bool, true, false, if◌then◌else◌, List, [], ◌∷◌, ◌++◌, length, length-append, map, refl, ap, ◌∙◌, arith}
+use Rattle.std.specs.List.{filter, flat_map, sum_by}
 use Rattle.std.proofs.lemmas.List.{length-map}
 use Rattle.std.proofs.lemmas.List.Concat.{flat_map-append}
 use Rattle.std.proofs.lemmas.List.FromFn.{length-map-range_with_len}
@@ -18,12 +17,12 @@ use Rattle.stim_parser.specs.Limits.{products_of, qubit_of}
 use Rattle.stim_parser.specs.Trees.{Tree}
 use Rattle.stim_parser.specs.Verdicts.{Instruction}
 use Rattle.circuit_walk.specs.Before.{Before}
-use Rattle.circuit_walk.specs.Meaning.{after, at_start, listing_of, made_in, made_of, new_faults, new_records, new_steps}
+use Rattle.circuit_walk.specs.Meaning.{after, at_start, listing_of, made_of, new_faults, new_records, new_steps}
 use Rattle.circuit_walk.specs.StepsMade.{gate_made, operation_made, pairs_made}
 use Rattle.circuit_walk.specs.TargetsMade.{operation_detectors}
 use Rattle.circuit_walk.specs.Totals.{observable_total, qubit_total, target_count}
 use Rattle.circuit_walk.specs.Makes.{makes_collapses, makes_faults, makes_records, one_if}
-use Rattle.circuit_walk.proofs.CountLemmas.{Each, Makes, MakesAs, each_new, length-numbered, new_faults-counted, new_records-counted}
+use Rattle.circuit_walk.proofs.CountLemmas.{Each, Makes, each_new, length-numbered, new_faults-counted, new_records-counted}
 use Rattle.unroll.specs.private.MadeTotals.{collapse_count, collapse_total, collapses_made, detector_count, detector_total, detectors_made, fault_count, fault_total, faults_counted, has_argument, made_count, made_total, record_count, record_total, records_made, steps_made}
 use Rattle.unroll.proofs.ReachedCounts.{sum-reached}
 

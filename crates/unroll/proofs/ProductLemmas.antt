@@ -1,21 +1,14 @@
 -- The products of targets, one factor at a time.
-use Rattle.std.proofs.Common.{◌≡◌, ℕ, ◌+◌, ◌<◌, Bool, true, false, List, [], ◌∷◌, ◌++◌, length, map, Option, Some, refl, sym, ap, ◌∙◌, subst, append_assoc, arith}
+use Rattle.std.proofs.Common.{◌≡◌, ◌+◌, ◌<◌, Bool, true, false, List, [], ◌∷◌, length, refl, sym, ap, ◌∙◌, subst, arith}
 use Rattle.std.specs.Prelude.{◌==◌, not}
 use Rattle.std.proofs.Math.Dec.{eqb-suc-zero}
 use Rattle.std.proofs.lemmas.List.Elements.{All-tail}
 use Rattle.std.specs.List.{onto_first}
-use Rattle.pauli_word.specs.Parity.{exclusive_or}
-use Rattle.pauli_word.proofs.Parities.{exclusive_or-false, exclusive_or_assoc}
-use Rattle.programs.specs.declared.step.TextStep.{TextStep}
-use Rattle.programs.specs.declared.step.TextStep.TheVariants as step
 use Rattle.stim_parser.specs.declared.target.Target.{Target}
 use Rattle.stim_parser.specs.declared.target.Target.TheVariants.{Plain, Inverted, Back, Pauli, Star}
-use Rattle.step_model.specs.declared.step.Term.{Term}
-use Rattle.unroll.specs.private.Made.{product_steps, recording}
 use Rattle.stim_parser.specs.Limits.{products_of}
 use Rattle.stim_parser.specs.Products.{is_joining}
-use Rattle.circuit_walk.specs.Targets.{is_inverted, is_product_inverted, term_of}
-use Rattle.unroll.specs.private.Pushed.{FollowsFactor, IsSmall, carried_steps}
+use Rattle.unroll.specs.private.Pushed.{FollowsFactor, IsSmall}
 
 -- ---- what follows a factor, where that is a star
 
@@ -79,53 +72,4 @@ count-ended t after behind false f h = ap length (f.products t) ∙ omega arith
 
 -- ---- their steps
 
-carried-onto : (inverted : Bool) (flip : Option ℕ) (p : ℕ) (t : Target) (ps : List (List Target)) → 0 < length ps → carried_steps inverted flip p (onto_first t ps) ≡ carried_steps (exclusive_or inverted (is_inverted t)) flip p ps
-carried-onto inverted flip p t [] h = absurd (omega (arith, h))
-carried-onto inverted flip p t (product ∷ ps) h =
-    ap
-    (λ (b : Bool). step.CollapseWord p (Some (recording b flip)) ∷ product_steps flip (p + 1) ps)
-    (sym (exclusive_or_assoc inverted (is_inverted t) (is_product_inverted product)))
-
-pub carried-joined : (inverted : Bool) (flip : Option ℕ) (p : ℕ) (t : Target) (after behind : List Target) (joined : Bool) → FollowsFactor after joined behind → joined ≡ true → carried_steps inverted flip p (products_of (t ∷ after)) ≡ carried_steps (exclusive_or inverted (is_inverted t)) flip p (products_of behind)
-carried-joined inverted flip p t after behind true f h =
-    ap (carried_steps inverted flip p) (f.products t)
-    ∙ carried-onto inverted flip p t (products_of behind) (some_products behind (f.some refl))
-carried-joined inverted flip p t after behind false f h = absurd cc
-
-pub carried-none : (flip : Option ℕ) (p : ℕ) (ps : List (List Target)) → carried_steps false flip p ps ≡ product_steps flip p ps
-carried-none flip p [] = refl
-carried-none flip p (product ∷ ps) = refl
-
-pub carried-ended : (inverted : Bool) (flip : Option ℕ) (p : ℕ) (t : Target) (after behind : List Target) (joined : Bool) → FollowsFactor after joined behind → joined ≡ false → carried_steps inverted flip p (products_of (t ∷ after)) ≡ step.CollapseWord p (Some (recording (exclusive_or inverted (is_inverted t)) flip)) ∷ carried_steps false flip (p + 1) (products_of behind)
-carried-ended inverted flip p t after behind true f h = absurd cc
-carried-ended inverted flip p t after behind false f h =
-    ap (carried_steps inverted flip p) (f.products t)
-    ∙ ap (λ (b : Bool). step.CollapseWord p (Some (recording (exclusive_or inverted b) flip)) ∷ product_steps flip (p + 1) (products_of behind)) (exclusive_or-false (is_inverted t))
-    ∙ ap (λ (steps : List TextStep). step.CollapseWord p (Some (recording (exclusive_or inverted (is_inverted t)) flip)) ∷ steps) (sym (carried-none flip (p + 1) (products_of behind)))
-
 -- ---- their letters
-
--- products of which the first begins with these letters
-abbrev pub carried_products : List Term → List (List Target) → List (List Term)
-carried_products terms [] = []
-carried_products terms (product ∷ products) = (terms ++ map term_of product) ∷ map (map term_of) products
-
-pub carried_products-none : (ps : List (List Target)) → carried_products [] ps ≡ map (map term_of) ps
-carried_products-none [] = refl
-carried_products-none (product ∷ ps) = refl
-
-products-onto : (terms : List Term) (t : Target) (ps : List (List Target)) → 0 < length ps → carried_products terms (onto_first t ps) ≡ carried_products (terms ++ term_of t ∷ []) ps
-products-onto terms t [] h = absurd (omega (arith, h))
-products-onto terms t (product ∷ ps) h =
-    ap (λ (p : List Term). p ∷ map (map term_of) ps) (sym (append_assoc terms (term_of t ∷ []) (map term_of product)))
-
-pub products-joined : (terms : List Term) (t : Target) (after behind : List Target) (joined : Bool) → FollowsFactor after joined behind → joined ≡ true → carried_products terms (products_of (t ∷ after)) ≡ carried_products (terms ++ term_of t ∷ []) (products_of behind)
-products-joined terms t after behind true f h =
-    ap (carried_products terms) (f.products t) ∙ products-onto terms t (products_of behind) (some_products behind (f.some refl))
-products-joined terms t after behind false f h = absurd cc
-
-pub products-ended : (terms : List Term) (t : Target) (after behind : List Target) (joined : Bool) → FollowsFactor after joined behind → joined ≡ false → carried_products terms (products_of (t ∷ after)) ≡ (terms ++ term_of t ∷ []) ∷ carried_products [] (products_of behind)
-products-ended terms t after behind true f h = absurd cc
-products-ended terms t after behind false f h =
-    ap (carried_products terms) (f.products t)
-    ∙ ap (λ (ps : List (List Term)). (terms ++ term_of t ∷ []) ∷ ps) (sym (carried_products-none (products_of behind)))

@@ -1,54 +1,45 @@
--- The steps of a circuit's tree are as many, and make as many records, collapses and faults, as its totals say.
-use Rattle.std.proofs.Common.{◌≡◌, ℕ, ◌+◌, ◌*◌, ◌<◌, ◌≤◌, ◌^◌, length, refl, sym, ap, ap₂, ◌∙◌, arith}
-use Rattle.std.specs.List.{sum_by}
-use Rattle.std.proofs.lemmas.List.Sums.{sum_by-append}
+-- No circuit makes more steps, or more faults, than it counts as.
+use Rattle.std.proofs.Common.{ℕ, ◌+◌, ◌/◌, ◌≤◌, Bool, true, false, arith}
+use Rattle.std.specs.Prelude.{if◌then◌else◌, ◌==◌}
 use Rattle.std.proofs.lemmas.Nat.{mul-le}
-use Rattle.programs.specs.declared.step.TextStep.{TextStep}
-use Rattle.programs.specs.Numbering.{counts_over, no_counts}
-use Rattle.programs.specs.Trees.{repeated}
-use Rattle.stim_parser.specs.Trees.{Tree}
-use Rattle.stim_lexer.specs.Trees.{Nothing, Then, Block}
-use Rattle.stim_parser.specs.Verdicts.{Instruction}
-use Rattle.unroll.specs.private.Kept.{entries_of, kept_entries, kept_products, products_in}
-use Rattle.unroll.specs.private.Steps.{instruction_steps, steps_from, steps_of}
-use Rattle.circuit_walk.specs.Totals.{step_total}
+use Rattle.gate_table.specs.Images.{arity_of}
 use Rattle.stim_lexer.specs.Reached.{total}
-use Rattle.unroll.specs.private.MadeTotals.{fault_count, fault_total, made_count, made_total, collapse_count, collapse_total, record_count, record_total, step_count}
-use Rattle.unroll.proofs.InstructionCounts.{few-faulty, few-made, instruction-collapses, instruction-faults, instruction-made, instruction-records}
-use Rattle.unroll.proofs.StepSums.{collapses_by, counts-same, counts-sum, faults_by, one_by, records_by, sum-ones, sum-repeated}
+use Rattle.stim_lexer.specs.Trees.{Nothing, Then, Block}
+use Rattle.stim_parser.specs.declared.operation.Operation.{Operation}
+use Rattle.stim_parser.specs.declared.operation.Operation.TheVariants.{Applies, Measurement, PauliError, CorrelatedError}
+use Rattle.stim_parser.specs.Trees.{Tree}
+use Rattle.stim_parser.specs.Verdicts.{Instruction}
+use Rattle.circuit_walk.specs.Totals.{step_total, target_count}
+use Rattle.unroll.specs.private.MadeTotals.{fault_count, fault_total, faults_counted, has_argument, made_count, made_total, records_made, step_count, steps_made}
 
--- what the steps of a tree make, where it is known of those of each instruction
-sum-tree : (f : TextStep → ℕ) (count : Instruction → ℕ) → ((e p : ℕ) (i : Instruction) → sum_by f (instruction_steps e p i) ≡ count i) → (t : Tree) (e p : ℕ) → sum_by f (steps_from e p t) ≡ total 0 count t
-unfolding steps_from total
-sum-tree f count h Nothing e p = refl
-sum-tree f count h (Then i rest) e p =
-    let later = steps_from (e + length (entries_of i)) (p + length (products_in i)) rest in
-    sum_by-append f (instruction_steps e p i) later
-    ∙ ap₂ (λ m n. m + n) (h e p i) (sum-tree f count h rest (e + length (entries_of i)) (p + length (products_in i)))
-sum-tree f count h (Block line turns body rest) e p =
-    let later = steps_from (e + length (kept_entries body)) (p + length (kept_products body)) rest in
-    let turn : sum_by f (steps_from e p body) ≡ 0 + total 0 count body = omega (arith, sum-tree f count h body e p) in
-    sum_by-append f (repeated turns (steps_from e p body)) later
-    ∙ ap₂ (λ m n. m + n)
-    (sum-repeated f turns (steps_from e p body) ∙ ap (λ n. turns * n) turn)
-    (sum-tree f count h rest (e + length (kept_entries body)) (p + length (kept_products body)))
+-- ---- no more steps and faults of a program than an instruction counts as
 
-pub tree-records : (t : Tree) (e p : ℕ) → sum_by records_by (steps_from e p t) ≡ record_total t
-tree-records t e p = sum-tree records_by record_count instruction-records t e p
+few-gates : (alone : Bool) (n : ℕ) → (if alone then n else n / 2) ≤ 1 + n
+few-gates true n = omega arith
+few-gates false n = omega arith
 
-pub counted : (t : Tree) → counts_over no_counts (steps_of t) ≡ record { records = record_total t; collapses = collapse_total t; faults = fault_total t }
-counted t =
-    counts-sum no_counts (steps_of t)
-    ∙ counts-same _ _ _ _ _ _
-    (from_none (tree-records t 0 0))
-    (from_none (sum-tree collapses_by collapse_count instruction-collapses t 0 0))
-    (from_none (sum-tree faults_by fault_count instruction-faults t 0 0))
-  where
-    from_none : {m n : ℕ} → m ≡ n → 0 + m ≡ n
-    from_none e = omega (arith, e)
+few-steps : (o : Operation) (n : ℕ) → steps_made o n ≤ 1 + n
+few-steps (Applies g) n = few-gates (arity_of g == 1) n
+few-steps o n = omega arith
 
-pub steps_counted : (t : Tree) → length (steps_of t) ≡ made_total t
-steps_counted t = sym (sum-ones (steps_of t)) ∙ sum-tree one_by made_count instruction-made t 0 0
+pub few-made : (i : Instruction) → made_count i ≤ step_count i
+few-made i = few-steps i.operation (target_count i.operation i.targets)
+
+few-flips : (flips : Bool) (m n : ℕ) → m ≤ n → (if flips then m else 0) ≤ 1 + n
+few-flips true m n h = omega (arith, h)
+few-flips false m n h = omega arith
+
+few-records : (o : Operation) (n : ℕ) → records_made o n ≤ n
+few-records (Measurement l) n = omega arith
+few-records o n = omega arith
+
+few-faults : (o : Operation) (flips : Bool) (n : ℕ) → faults_counted o flips n ≤ 1 + n
+few-faults (PauliError l) flips n = omega arith
+few-faults CorrelatedError flips n = omega arith
+few-faults o flips n = few-flips flips (records_made o n) n (few-records o n)
+
+pub few-faulty : (i : Instruction) → fault_count i ≤ step_count i
+few-faulty i = few-faults i.operation (has_argument i) (target_count i.operation i.targets)
 
 -- ---- no more steps and faults than a circuit counts as
 
@@ -66,6 +57,3 @@ made_few t = few-tree made_count few-made t
 
 pub faults_few : (t : Tree) → fault_total t ≤ step_total t
 faults_few t = few-tree fault_count few-faulty t
-
-pub steps_few : (t : Tree) → step_total t ≤ 64_000_000 → length (steps_of t) < 2 ^ 32
-steps_few t h = omega (arith, steps_counted t, made_few t, h)

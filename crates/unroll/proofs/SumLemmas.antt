@@ -19,7 +19,7 @@ use Rattle.circuit_walk.specs.Refusals.{first_observable_beyond, is_before_start
 use Rattle.circuit_walk.specs.Totals.{observables_to}
 use Rattle.unroll.specs.private.Counted.{first_far_from}
 use Rattle.unroll.specs.private.Summed.{AreTotals, capped_sum, greatest, nothing_summed, repeated_sum, summing, totals_after, totals_repeated}
-use Rattle.unroll.specs.private.MadeTotals.{fault_count, made_count, collapse_count, detector_count, listed_count, qubits_named, record_count, step_count}
+use Rattle.unroll.specs.private.MadeTotals.{fault_count, made_count, collapse_count, detector_count, qubits_named, record_count, step_count}
 use Rattle.unroll.specs.private.Pushed.{back_of}
 use Rattle.unroll.proofs.FitLemmas.{backs_within}
 use Rattle.unroll.proofs.QubitsWithin.{greatest-append}
@@ -146,7 +146,6 @@ summed t fit =
       detectors = whole-sum (sums detector_count (λ t. t.detectors) (λ i t. refl) (λ turns before after. refl)) Fits t nothing_summed fit refl;
       faults = whole-sum (sums fault_count (λ t. t.faults) (λ i t. refl) (λ turns before after. refl)) Fits t nothing_summed fit refl;
       steps = whole-sum step_sums Fits t nothing_summed fit refl;
-      listed = whole-sum (sums listed_count (λ t. t.listed) (λ i t. refl) (λ turns before after. refl)) Fits t nothing_summed fit refl;
       made = whole-sum (sums made_count (λ t. t.made) (λ i t. refl) (λ turns before after. refl)) Fits t nothing_summed fit refl;
       qubits = whole-greatest (λ i. qubits_named i.targets) (λ t. t.qubits) (record { step = λ i t. refl; close = λ turns before after. refl }) refl t;
       observables = whole-greatest (λ i. observables_to i.operation i.arguments) (λ t. t.observables) (record { step = λ i t. refl; close = λ turns before after. refl }) refl t;

@@ -1,3 +1,2 @@
 pub mod Programs
-pub mod Untargeted
 pub mod private

@@ -1,5 +1,5 @@
-ghost use Rattle.std.specs.Prelude.{◌≡◌, ◌+◌, ◌*◌, ◌<◌, ◌^◌};
-ghost use Rattle.unroll.specs.private.MadeTotals.{faults_counted, steps_made, records_made, collapses_made, detectors_made, records_listed};
+ghost use Rattle.std.specs.Prelude.{◌≡◌, ◌+◌};
+ghost use Rattle.unroll.specs.private.MadeTotals.{faults_counted, steps_made, records_made, collapses_made, detectors_made};
 
 use stim_parser::Operation;
 
@@ -34,17 +34,6 @@ pub(crate) fn detectors_made(operation: Operation) -> usize
 {
     match operation {
         Operation::DetectorDeclaration => 1,
-        _ => 0,
-    }
-}
-
-/// Of this many targets, how many records a detector lists.
-#[inline(always)]
-pub(crate) fn records_listed(operation: Operation, targets: usize) -> usize
-    ensures { result ≡ records_listed operation targets }
-{
-    match operation {
-        Operation::DetectorDeclaration => targets,
         _ => 0,
     }
 }
@@ -84,13 +73,4 @@ pub(crate) fn steps_made(operation: Operation, targets: usize) -> usize
         Operation::CorrelatedError => 1,
         _ => collapses_made(operation, targets),
     }
-}
-
-/// The records behind this many later turns of a block, of which each makes `by`.
-#[inline(always)]
-pub(crate) fn records_behind(records: u64, turns: u64, by: u64) -> u64
-    requires { records + turns * by < 2 ^ 64 }
-    ensures { result ≡ records + turns * by }
-{
-    records + turns * by
 }

@@ -1,7 +1,7 @@
 ghost use Rattle.std.specs.Prelude.{◌≡◌, ◌≤◌, [], ◌∷◌, All, length, MatchOption};
 ghost use Rattle.stim_parser.specs.Numbers.{most_qubits};
 ghost use Rattle.stim_parser.specs.Products.{is_joining};
-ghost use Rattle.stim_parser.specs.Limits.{products_of, qubit_of};
+ghost use Rattle.stim_parser.specs.Limits.{products_of};
 ghost use Rattle.unroll.specs.private.Pushed.{FollowsFactor};
 ghost use Rattle.circuit_walk.specs.Refusals.{is_before_start, reaches_far};
 ghost use Rattle.circuit_walk.specs.Totals.{qubits_to, target_count};
@@ -11,7 +11,7 @@ use stim_parser::{Operation, Target, TargetWord};
 
 /// The first of targets, and those behind it.
 #[inline(always)]
-pub(crate) fn split_first(targets: &[TargetWord]) -> Option<(Target, &[TargetWord])>
+fn split_first(targets: &[TargetWord]) -> Option<(Target, &[TargetWord])>
     ensures { MatchOption result (targets.now ≡ [])
         (λ first. targets.now ≡ first.0 ∷ first.1.now) }
 {
@@ -29,18 +29,6 @@ fn qubits_to(target: Target) -> u32
 {
     match target {
         Target::Plain(q) | Target::Inverted(q) | Target::Pauli(_, _, q) => q as u32 + 1,
-        Target::Back(_) | Target::Star => 0,
-    }
-}
-
-/// The qubit that a target names.
-#[inline(always)]
-pub(crate) fn qubit_of(target: Target) -> u32
-    requires { qubits_to target ≤ most_qubits }
-    ensures { result ≡ qubit_of target }
-{
-    match target {
-        Target::Plain(q) | Target::Inverted(q) | Target::Pauli(_, _, q) => q as u32,
         Target::Back(_) | Target::Star => 0,
     }
 }
@@ -97,7 +85,7 @@ fn is_star(target: Target) -> bool
 
 /// Whether a star joins a factor to the next one, and what follows the factor and the star.
 #[inline(always)]
-pub(crate) fn end_of_factor(after: &[TargetWord]) -> (bool, &[TargetWord])
+fn end_of_factor(after: &[TargetWord]) -> (bool, &[TargetWord])
     ensures { FollowsFactor after.now result.0 result.1.now }
 {
     match split_first(after) {

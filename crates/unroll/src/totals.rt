@@ -6,9 +6,7 @@ ghost use Rattle.stim_parser.specs.Kept.{instruction_in, item_in};
 ghost use Rattle.unroll.specs.private.Summed.{AreTotals, capped_sum, first_line, nothing_summed, repeated_sum, summing, totals_after, totals_repeated, SumsFit};
 ghost use Rattle.unroll.specs.private.MadeTotals.{has_argument};
 
-use crate::counts::{
-    collapses_made, detectors_made, faults_counted, records_listed, records_made, steps_made,
-};
+use crate::counts::{collapses_made, detectors_made, faults_counted, records_made, steps_made};
 use crate::observables::{are_beyond_limit, named_to};
 use crate::targets::{reach_of, target_count};
 use arrayvec::ArrayVec;
@@ -17,7 +15,7 @@ use stim_lexer::{LEVELS, OpenBlock};
 use stim_parser::{Circuit, Instruction, Item, Operation};
 
 /// What a circuit takes up to a place of its text, at the first turn of the blocks that are open there: what counts
-/// towards its limits, the records that its detectors list, its faults, the steps that its program has, its qubits and
+/// towards its limits, its faults, the steps that its program has, its qubits and
 /// observables, the first line that reaches back before the first record, and the first that names an observable beyond the
 /// limit. A sum that doesn't fit stays at the greatest number that does.
 #[derive(Clone, Copy, Default)]
@@ -25,7 +23,6 @@ pub(crate) struct Totals {
     pub records: u64,
     pub collapses: u64,
     pub detectors: u64,
-    pub listed: u64,
     pub faults: u64,
     pub steps: u64,
     pub made: u64,
@@ -86,7 +83,6 @@ impl Totals {
             records: 0,
             collapses: 0,
             detectors: 0,
-            listed: 0,
             faults: 0,
             steps: 0,
             made: 0,
@@ -106,7 +102,6 @@ impl Totals {
         let _records = self.records;
         let _collapses = self.collapses;
         let _detectors = self.detectors;
-        let _listed = self.listed;
         let _faults = self.faults;
     }
 
@@ -132,7 +127,6 @@ impl Totals {
             Operation::CorrelatedError => self.faults = capped_sum(self.faults, 1),
             Operation::DetectorDeclaration => {
                 self.detectors = capped_sum(self.detectors, 1);
-                self.listed = capped_sum(self.listed, targets);
             }
             _ => {
                 let flips = has_argument(instruction);
@@ -140,7 +134,6 @@ impl Totals {
                 self.records = capped_sum(self.records, records_made(operation, targets));
                 self.collapses = capped_sum(self.collapses, collapses_made(operation, targets));
                 self.detectors = capped_sum(self.detectors, detectors_made(operation));
-                self.listed = capped_sum(self.listed, records_listed(operation, targets));
                 self.faults = capped_sum(self.faults, faults_counted(operation, flips, targets));
                 self.observables = self.observables.max(named);
                 self.beyond_line = first_line(self.beyond_line, are_beyond_limit(named), line);
@@ -156,7 +149,6 @@ impl Totals {
             records: repeated_sum(turns, before.records, self.records),
             collapses: repeated_sum(turns, before.collapses, self.collapses),
             detectors: repeated_sum(turns, before.detectors, self.detectors),
-            listed: repeated_sum(turns, before.listed, self.listed),
             faults: repeated_sum(turns, before.faults, self.faults),
             steps: repeated_sum(turns, before.steps, self.steps.saturating_add(1)),
             made: repeated_sum(turns, before.made, self.made),

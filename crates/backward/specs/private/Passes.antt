@@ -10,10 +10,10 @@ use Rattle.step_model.specs.Listing.{Listing, ListedStep, Collapse, Feedback, Me
 use Rattle.step_model.specs.Sensitivities.{cleared, latest_place, lowest_X_or_Y}
 use Rattle.step_model.specs.Targets.{targets_of, target_at}
 use Rattle.step_model.specs.WellFormed.{collapse_count, records_made}
-use Rattle.programs.specs.Kept.{KeptProgram}
-use Rattle.programs.specs.Listed.{recorded}
-use Rattle.programs.specs.Named.{IsNamedFlip, IsRecord}
-use Rattle.programs.specs.declared.step.FaultName.{FaultName}
+use Rattle.circuit_walk.specs.Programs.{KeptProgram}
+use Rattle.circuit_walk.specs.Steps.{recorded}
+use Rattle.circuit_walk.specs.Named.{IsNamedFlip, IsRecord}
+use Rattle.circuit_walk.specs.declared.step.FaultName.{FaultName}
 use Rattle.backward.specs.declared.found.Found.{Found}
 use Rattle.trackers.specs.Tracked.{Tracked, with_I_at}
 use Rattle.step_model.specs.TargetSets.{members}
@@ -76,7 +76,7 @@ pub record IsCollapseAt (program : KeptProgram) (place : ℕ) (terms : List Term
   pub terms_fit : All (λ term. term.qubit < program.listing.qubits) terms
   pub reset_fits : IfSome reset (λ q. q < program.listing.qubits)
   pub is_record : IsRecord program rec
-  pub is_named : IsNamedFlip program flip
+  pub is_named : IsNamedFlip program rec flip
 
 -- words and sets are of all targets of a program, and what a collapse names is there
 pub record FitsCollapse (program : KeptProgram) (tracked : Tracked) (sets : List (List Bool)) (terms : List Term) (reset rec : Option ℕ) (flip : Option FaultName) : Type 0 where
@@ -84,7 +84,7 @@ pub record FitsCollapse (program : KeptProgram) (tracked : Tracked) (sets : List
   pub long : All (λ set. length set ≡ length (targets_of program.listing)) sets
   pub few : length (targets_of program.listing) ≤ 2 ^ 32
   pub is_record : IfSome rec (λ r. r < length sets)
-  pub is_named : IsNamedFlip program flip
+  pub is_named : IsNamedFlip program rec flip
   pub terms_fit : All (λ term. term.qubit < tracked.qubits) terms
   pub reset_fits : IfSome reset (λ q. q < tracked.qubits)
 

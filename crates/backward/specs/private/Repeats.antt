@@ -5,7 +5,7 @@ use Rattle.step_model.specs.Listing.{Listing}
 use Rattle.step_model.specs.Sensitivities.{latest_place}
 use Rattle.step_model.specs.Targets.{target_at}
 use Rattle.step_model.specs.TargetSets.{members}
-use Rattle.programs.specs.Turns.{AreFedFrom}
+use Rattle.circuit_walk.specs.Turns.{AreFedFrom}
 use Rattle.record_targets.specs.ListingSets.{listing_set, sensitivity_before}
 use Rattle.backward.specs.private.Passes.{records_before}
 use Rattle.backward.specs.private.MovedTargets.{earlier_list, later_target}

@@ -1,6 +1,6 @@
 -- Parts of a way back over a stretch of steps, each of which ends with turns that repeat, or with the way. (This project's own.)
 use Rattle.std.specs.Prelude.{⊤, ◌≡◌, ◌<◌, ◌≤◌, ℕ, List, [], ◌∷◌, Option, None, Some}
-use Rattle.programs.specs.Kept.{KeptProgram}
+use Rattle.circuit_walk.specs.Programs.{KeptProgram}
 use Rattle.backward.specs.declared.points.Segment.{Segment}
 use Rattle.backward.specs.declared.turns.KeptTurns.{KeptTurns}
 use Rattle.backward.specs.declared.whole.Whole.{Whole}

@@ -3,8 +3,8 @@ use Rattle.std.specs.Prelude.{◌≡◌, ◌<◌, ◌≤◌, ◌+◌, ℕ, List,
 use Rattle.step_model.specs.declared.step.Term.{Term}
 use Rattle.step_model.specs.ErrorModels.{ErrorLine}
 use Rattle.step_model.specs.Listing.{Listing, ListedStep}
-use Rattle.programs.specs.Kept.{KeptProgram}
-use Rattle.programs.specs.declared.step.FaultName.{FaultName}
+use Rattle.circuit_walk.specs.Programs.{KeptProgram}
+use Rattle.circuit_walk.specs.declared.step.FaultName.{FaultName}
 use Rattle.backward.specs.declared.found.Found.{Found}
 use Rattle.backward.specs.declared.point.Point.{Point}
 use Rattle.trackers.specs.Tracked.{Tracked}

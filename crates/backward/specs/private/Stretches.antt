@@ -7,8 +7,9 @@ use Rattle.step_model.specs.Hits.{hits_at}
 use Rattle.step_model.specs.Listing.{Listing, ListedStep, fault_at}
 use Rattle.step_model.specs.Targets.{targets_of}
 use Rattle.step_model.specs.WellFormed.{step_faults}
-use Rattle.programs.specs.Kept.{KeptProgram, kept_at}
-use Rattle.programs.specs.declared.step.FaultName.{FaultName}
+use Rattle.circuit_walk.specs.Programs.{KeptProgram}
+use Rattle.step_model.specs.Chances.{chance_at}
+use Rattle.circuit_walk.specs.declared.step.FaultName.{FaultName}
 use Rattle.error_models.specs.ModelText.{line_text}
 use Rattle.record_targets.specs.ListingSets.{sensitivity_before}
 
@@ -20,7 +21,7 @@ line_for text (t ∷ ts) = record { text = text; targets = t ∷ ts } ∷ []
 -- that of the fault that flips a record, where there is one, for these targets
 abbrev pub flip_line : KeptProgram → Option FaultName → List ℕ → List ErrorLine
 flip_line program None targets = []
-flip_line program (Some name) targets = line_for (kept_at program name.entry).text targets
+flip_line program (Some name) targets = line_for (chance_at program.chances name.chance).text targets
 
 -- the targets that a fault at a step flips, and its line; the steps are those after it
 abbrev pub hit_at : Listing → ListedStep → List ListedStep → ℕ → List ℕ

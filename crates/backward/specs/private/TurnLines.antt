@@ -4,7 +4,8 @@
 use Rattle.std.specs.Prelude.{◌≡◌, ℕ, zero, suc, ◌*◌, ◌<◌, List, [], ◌∷◌, ◌++◌, All, length, reverse}
 use Rattle.std.specs.List.{flat_map}
 use Rattle.error_models.specs.ModelText.{line_text}
-use Rattle.programs.specs.Kept.{KeptProgram, kept_at}
+use Rattle.circuit_walk.specs.Programs.{KeptProgram}
+use Rattle.step_model.specs.Chances.{chance_at}
 use Rattle.step_model.specs.ErrorModels.{ErrorLine}
 use Rattle.step_model.specs.Targets.{targets_of}
 use Rattle.backward.specs.private.MovedTargets.{IsClear, moved_list}
@@ -16,15 +17,15 @@ pub record KeptLines : Type 0 where
   pub program : KeptProgram
   pub lines : List ErrorLine
 
--- those of faults with these entries, which flip these targets, one each
+-- those of faults with the probabilities of these numbers, which flip these targets, one each
 abbrev pub kept_lines : KeptProgram → List ℕ → List (List ℕ) → List ErrorLine
-kept_lines program (entry ∷ entries) (targets ∷ lists) = record { text = (kept_at program entry).text; targets = targets } ∷ kept_lines program entries lists
-kept_lines program entries lists = []
+kept_lines program (chance ∷ chances) (targets ∷ lists) = record { text = (chance_at program.chances chance).text; targets = targets } ∷ kept_lines program chances lists
+kept_lines program chances lists = []
 
--- there are such entries and targets
-pub record AreKeptLines (program : KeptProgram) (entries : List ℕ) (lists : List (List ℕ)) : Type 0 where
-  pub counted : length entries ≡ length lists
-  pub entered : All (λ entry. entry < length program.kept) entries
+-- there are such probabilities and targets
+pub record AreKeptLines (program : KeptProgram) (chances : List ℕ) (lists : List (List ℕ)) : Type 0 where
+  pub counted : length chances ≡ length lists
+  pub there : All (λ chance. chance < length program.chances) chances
   pub named : All (All (λ t. t < length (targets_of program.listing))) lists
 
 -- error lines with their targets below one moved to be `by` earlier; one that is left without targets goes away

@@ -2,7 +2,7 @@
 -- lines of that turn are kept for them. (Gidney, Quantum 5, 497 (2021): errors of a block's turns are found once.)
 use Rattle.std.specs.Prelude.{◌≡◌, ℕ, ◌*◌, ◌^◌, ◌<◌, ◌≤◌, false, length, reverse, Result, OnOk}
 use Rattle.step_model.specs.Listing.{Listing}
-use Rattle.programs.specs.Kept.{KeptProgram}
+use Rattle.circuit_walk.specs.Programs.{KeptProgram}
 use Rattle.trackers.specs.Tracked.{Tracked}
 use Rattle.backward.specs.declared.found.Found.{Found}
 use Rattle.backward.specs.declared.point.Point.{Point}

@@ -2,7 +2,6 @@
 use Rattle.std.specs.Prelude.{◌≡◌, ◌<◌, ◌≤◌, ℕ, List, [], ◌∷◌, ◌++◌, codes, decimal, length, take}
 use Rattle.step_model.specs.declared.chances.ChanceText.{ChanceText}
 use Rattle.step_model.specs.Chances.{chance_at}
-use Rattle.programs.specs.declared.entries.ChanceTable.{ChanceTable}
 
 -- the first bytes are the digits of a number
 pub record HasDigits (number len : ℕ) (bytes : List ℕ) : Type 0 where
@@ -20,11 +19,11 @@ abbrev pub probability_text : List ℕ → List ℕ
 probability_text text = codes " " ++ text ++ codes " "
 
 -- the first bytes are that of the text with a number, where there is one
-pub record HasProbability (parts : List ChanceText) (part len : ℕ) (bytes : List ℕ) : Type 0 where
+pub record HasProbability (chances : List ChanceText) (number len : ℕ) (bytes : List ℕ) : Type 0 where
   pub within : len ≤ 32
-  pub text : part < length parts → take len bytes ≡ probability_text (chance_at parts part).text
+  pub text : number < length chances → take len bytes ≡ probability_text (chance_at chances number).text
 
--- a table of probabilities, and the number of the part whose text is kept
+-- the texts of probabilities, and the number of the one that is kept between spaces
 pub record KeptProbability : Type 0 where
-  pub table : ChanceTable
-  pub part : ℕ
+  pub chances : List ChanceText
+  pub number : ℕ

@@ -1,13 +1,13 @@
 -- What a run holds between two steps, and what a part of a step does to it.
 -- (Runs of stabilizer circuits: Aaronson and Gottesman, Phys. Rev. A 70, 052328.)
 use Rattle.std.specs.Prelude.{◌≡◌, ◌≤◌, ℕ, ◌+◌, Bool, if◌then◌else◌, List, [], ◌∷◌, ◌++◌, length, Option, is_some}
+use Rattle.circuit_walk.specs.declared.step.Step.{Step}
+use Rattle.circuit_walk.specs.Named.{IsStepOf}
+use Rattle.circuit_walk.specs.Programs.{KeptProgram}
+use Rattle.circuit_walk.specs.Steps.{listed, measured}
 use Rattle.pauli_word.specs.declared.letter.Letter.{Letter}
 use Rattle.pauli_word.specs.Parity.{exclusive_or}
 use Rattle.pauli_word.specs.States.{State}
-use Rattle.programs.specs.declared.step.Step.{Step}
-use Rattle.programs.specs.Kept.{KeptProgram}
-use Rattle.programs.specs.Listed.{listed, measured}
-use Rattle.programs.specs.Named.{IsStepOf}
 use Rattle.step_model.specs.Listing.{step_records}
 use Rattle.step_model.specs.Runs.{RunState, corrected, correction}
 use Rattle.tableau.specs.Rows.{Rows, row_count, state_of}
@@ -60,4 +60,4 @@ pub record ComesTo (old new : Running) (m : RunState) : Type 0 where
 pub record CanTake (program : KeptProgram) (step : Step) (n made most : ℕ) : Type 0 where
   pub of_program : IsStepOf program step
   pub qubits : n ≡ program.listing.qubits
-  pub room : made + length (step_records (listed program.listing.qubits program.products step)) ≤ most
+  pub room : made + length (step_records (listed program.listing.qubits step)) ≤ most

@@ -1,8 +1,8 @@
 -- Faults that don't happen.
 -- (How they are passed over is this project's own.)
 use Rattle.std.specs.Prelude.{◌≡◌, ◌<◌, ◌≤◌, ◌+◌, ℕ, Bool, false, List}
-use Rattle.programs.specs.Turns.{faults_before}
-use Rattle.programs.specs.Walks.{ArePassed, Walked}
+use Rattle.circuit_walk.specs.Programs.{Walked}
+use Rattle.circuit_walk.specs.Walks.{ArePassed, faults_before}
 use Rattle.step_model.specs.Runs.{happens}
 
 -- none from one number to another happens

@@ -10,15 +10,15 @@ use Rattle.forward_sim.specs.declared.replaced_word.ReplacedWord.{ReplacedWord}
 use Rattle.pauli_word.specs.declared.letter.Letter.{Letter}
 use Rattle.pauli_word.specs.Parity.{exclusive_or}
 use Rattle.pauli_word.specs.Words.{anticommute, lone_letter, no_letters}
-use Rattle.programs.specs.Listed.{listed, measured}
-use Rattle.programs.specs.declared.step.Step.{Step}
+use Rattle.circuit_walk.specs.Steps.{listed, measured}
+use Rattle.circuit_walk.specs.declared.step.Step.{Step}
 use Rattle.step_model.specs.declared.step.Term.{Term}
 use Rattle.step_model.specs.Frames.{Frame}
 use Rattle.step_model.specs.Listing.{Listing, ListedStep, One, Two, Collapse, Fault, Feedback, word_of_terms, measured_word}
 use Rattle.step_model.specs.Sensitivities.{cleared, multiplied}
 use Rattle.step_model.specs.WellFormed.{TermsFit}
 use Rattle.run_laws.specs.Shifts.{carried_with}
-use Rattle.frames.specs.declared.letters.Letters.{Letters}
+use Rattle.frames.specs.declared.letters.LaneLetters.{LaneLetters}
 use Rattle.frames.specs.LaneFrames.{LaneFrames, frame_in}
 
 -- a frame, multiplied where b by the word that is kept of a collapse, if there is one
@@ -54,9 +54,9 @@ AreStill f = (j : ℕ) → IsStill (frame_in j f)
 -- a step that changes no frame of these runs, or, where `still`, none that is I, where the step is no collapse
 abbrev pub ChangesNothing : List ℕ → Bool → Step → Type 0
 ChangesNothing faults still step =
-    (program : Listing) (products : List (List Term)) (j : ℕ) (coin : Bool) (v : Frame)
+    (program : Listing) (j : ℕ) (coin : Bool) (v : Frame)
     → (still ≡ true → IsStill v)
-    → followed program (lane j faults) None coin (listed program.qubits products step) v ≡ v
+    → followed program (lane j faults) None coin (listed program.qubits step) v ≡ v
 
 -- the letters at qubits of a word that is kept of a collapse, if any
 abbrev pub terms_of : Option ReplacedWord → Option (List Term)
@@ -81,7 +81,7 @@ TurnsAt n replaced (Fault f) = ⊤
 TurnsAt n replaced (Feedback w r) = ⊤
 
 -- frames before the first record
-abbrev pub letters_alone : List Letters → LaneFrames
+abbrev pub letters_alone : List LaneLetters → LaneFrames
 letters_alone letters = record { letters = letters; flips = []; room = 0 }
 
 -- what is done to the frame of each run j: where the run is one of these, it is multiplied by w

@@ -1,18 +1,17 @@
--- What follows 64 runs of a program, and what it shows of each: frames beside a reference run, which show all; or frames alone, which
--- show detections, where no target is random.
+-- What follows 64 runs of a program, and what it shows of each: frames beside a reference run, which show records, or detections by
+-- the records of targets; or frames alone, which show detections, where no target is random.
 -- (This project's own.)
-use Rattle.std.specs.Prelude.{⊤, ◌≡◌, ℕ, Bool, List, length}
+use Rattle.std.specs.Prelude.{◌≡◌, ℕ, Bool, List, length}
 use Rattle.bit_rows.specs.Lanes.{lane}
 use Rattle.step_model.specs.Listing.{Listing}
-use Rattle.step_model.specs.Targets.{parities}
+use Rattle.step_model.specs.Targets.{difference, parities, targets_of}
 use Rattle.frames.specs.Batches.{IsBatchOf, shot_records}
 use Rattle.frames.specs.Carried.{NoneRandom}
 use Rattle.frames.specs.LaneFrames.{LaneFrames}
 use Rattle.frames.specs.declared.follower.Follower.{Follower}
-use Rattle.frames.specs.declared.follower.Follower.TheVariants.{Beside, Alone}
+use Rattle.frames.specs.declared.follower.Follower.TheVariants as follower
 use Rattle.frames.specs.declared.side_runs.Shown.{Shown}
-use Rattle.frames.specs.declared.side_runs.Shown.TheVariants.{Detections}
-use Rattle.frames.specs.private.ShownRuns.{shown_beside}
+use Rattle.frames.specs.declared.side_runs.Shown.TheVariants.{Records, Detections}
 
 -- frames of this program, of which no target is random
 pub record AreFramesOf (program : Listing) (frames : LaneFrames) : Type 0 where
@@ -22,15 +21,24 @@ pub record AreFramesOf (program : Listing) (frames : LaneFrames) : Type 0 where
 
 -- what follows runs of this program
 abbrev pub Follows : {A : Type 0} → Listing → Follower A → Type 0
-Follows program (Beside batch) = IsBatchOf program batch
-Follows program (Alone frames) = AreFramesOf program frames
+Follows program (follower.Records batch) = IsBatchOf program batch
+Follows program (follower.Detections batch targets) = IsBatchOf program batch × (targets ≡ targets_of program)
+Follows program (follower.Alone frames targets) = AreFramesOf program frames × (targets ≡ targets_of program)
 
--- what can show this of them
-abbrev pub Shows : {A : Type 0} → Shown → Follower A → Type 0
-Shows shown (Beside batch) = ⊤
-Shows shown (Alone frames) = shown ≡ Detections
+-- what it shows of them
+abbrev pub kind_of : {A : Type 0} → Follower A → Shown
+kind_of (follower.Records batch) = Records
+kind_of (follower.Detections batch targets) = Detections
+kind_of (follower.Alone frames targets) = Detections
+
+-- how many truth values it shows of each
+abbrev pub value_count : {A : Type 0} → Follower A → ℕ
+value_count (follower.Records batch) = length batch.reference.records
+value_count (follower.Detections batch targets) = length targets
+value_count (follower.Alone frames targets) = length targets
 
 -- what it shows of run j
-abbrev pub shown_by : {A : Type 0} → Shown → Listing → ℕ → Follower A → List Bool
-shown_by shown program j (Beside batch) = shown_beside shown program (shot_records j batch) batch.reference.records
-shown_by shown program j (Alone frames) = parities program (lane j frames.flips)
+abbrev pub shown_by : {A : Type 0} → Listing → ℕ → Follower A → List Bool
+shown_by program j (follower.Records batch) = shot_records j batch
+shown_by program j (follower.Detections batch targets) = difference program (shot_records j batch) batch.reference.records
+shown_by program j (follower.Alone frames targets) = parities program (lane j frames.flips)

@@ -5,11 +5,11 @@
 use Rattle.std.specs.Prelude.{◌≡◌, ℕ, ◌+◌, false, List, [], ◌++◌, replicate, Option, None, Some}
 use Rattle.pauli_word.specs.declared.letter.Letter.{Letter}
 use Rattle.pauli_word.specs.Words.{no_letters}
-use Rattle.programs.specs.declared.step.Step.{Step}
-use Rattle.programs.specs.declared.step.Step.TheVariants.{One, Two, Collapse, CollapseWord, Fault, Feedback}
-use Rattle.programs.specs.Kept.{KeptProgram}
-use Rattle.programs.specs.Listed.{listed}
-use Rattle.programs.specs.Named.{IsStepOf}
+use Rattle.circuit_walk.specs.declared.step.Step.{Step}
+use Rattle.circuit_walk.specs.declared.step.Step.TheVariants.{One, Two, Collapse, CollapseWord, Fault, Feedback}
+use Rattle.circuit_walk.specs.Programs.{KeptProgram}
+use Rattle.circuit_walk.specs.Steps.{listed}
+use Rattle.circuit_walk.specs.Named.{IsStepOf}
 use Rattle.step_model.specs.Frames.{begun, flips_from, flips_of, first_word, zero_coins}
 use Rattle.step_model.specs.Listing.{ListedStep}
 use Rattle.step_model.specs.Sensitivities.{collapse_word}
@@ -27,8 +27,8 @@ abbrev pub made_after : ℕ → Step → ℕ
 made_after made (One gate q) = made
 made_after made (Two gate a b) = made
 made_after made (Collapse letter q rec reset inverted flip) = made_with made rec
-made_after made (CollapseWord p rec inverted flip) = made_with made rec
-made_after made (Fault name) = made
+made_after made (CollapseWord letters rec inverted flip) = made_with made rec
+made_after made (Fault name letters) = made
 made_after made (Feedback letter q r) = made
 
 -- the walk has gone over the collapse k of a program, and these steps are left: a frame begun there flips none of the
@@ -36,7 +36,7 @@ made_after made (Feedback letter q r) = made
 pub record IsPassed (program : KeptProgram) (k : ℕ) (left : List ListedStep) (passed : Passed) : Type 0 where
   pub named : IsStepOf program passed.step
   pub word :
-      collapse_word program.listing.qubits (listed program.listing.qubits program.products passed.step)
+      collapse_word program.listing.qubits (listed program.listing.qubits passed.step)
       ≡ first_word program.listing (After k)
   pub flips :
       (v : List Letter)

@@ -2,8 +2,8 @@
 -- (How they are passed over is this project's own.)
 use Rattle.std.specs.Prelude.{◌≡◌, ◌<◌, ◌≤◌, ◌+◌, ℕ, false, List}
 use Rattle.bit_rows.specs.Lanes.{lane}
-use Rattle.programs.specs.Turns.{faults_before}
-use Rattle.programs.specs.Walks.{ArePassed, Walked}
+use Rattle.circuit_walk.specs.Programs.{Walked}
+use Rattle.circuit_walk.specs.Walks.{ArePassed, faults_before}
 use Rattle.step_model.specs.Runs.{happens}
 
 -- a fault happens in no run

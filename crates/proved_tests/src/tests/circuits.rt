@@ -1,4 +1,4 @@
 mod analyses;
+mod chances;
 mod drawn;
-mod entries;
 mod parts;

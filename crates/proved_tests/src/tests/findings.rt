@@ -1,8 +1,8 @@
 //! What the analysis of a circuit finds, by both trackers: part by part the same, or not.
 use crate::tests::words::{dense_words, sparse_words};
 use backward::{Analysed, analyse};
+use circuit_walk::Program;
 use error_models::Model;
-use programs::Program;
 use std::alloc::Global;
 use step_model::Fault;
 

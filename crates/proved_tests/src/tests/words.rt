@@ -4,7 +4,7 @@ ghost use Rattle.step_model.specs.Targets.{targets_of};
 ghost use Rattle.trackers.specs.Tracked.{fresh};
 
 use backward::{DenseWords, QubitSets};
-use programs::Program;
+use circuit_walk::Program;
 use std::alloc::{AllocError, Allocator};
 
 pub(super) fn dense_words<A: Allocator + Copy>(

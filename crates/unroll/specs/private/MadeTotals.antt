@@ -25,11 +25,6 @@ abbrev pub detectors_made : Operation → ℕ
 detectors_made DetectorDeclaration = 1
 detectors_made operation = 0
 
--- of this many targets, how many records a detector lists
-abbrev pub records_listed : Operation → ℕ → ℕ
-records_listed DetectorDeclaration targets = targets
-records_listed operation targets = 0
-
 -- what an instruction counts towards the limits: steps, records, collapses and detectors
 abbrev pub step_count : Instruction → ℕ
 step_count i = 1 + target_count i.operation i.targets
@@ -43,10 +38,6 @@ collapse_count i = collapses_made i.operation (target_count i.operation i.target
 abbrev pub detector_count : Instruction → ℕ
 detector_count i = detectors_made i.operation
 
--- how many records an instruction lists, where it is a detector
-abbrev pub listed_count : Instruction → ℕ
-listed_count i = records_listed i.operation (target_count i.operation i.targets)
-
 -- the same of a tree
 abbrev pub record_total : Tree → ℕ
 record_total tree = total 0 record_count tree
@@ -56,9 +47,6 @@ collapse_total tree = total 0 collapse_count tree
 
 abbrev pub detector_total : Tree → ℕ
 detector_total tree = total 0 detector_count tree
-
-abbrev pub listed_total : Tree → ℕ
-listed_total tree = total 0 listed_count tree
 
 -- how many faults an operation makes of this many targets: a measurement one of each record, where it has a probability
 abbrev pub faults_counted : Operation → Bool → ℕ → ℕ
@@ -94,9 +82,6 @@ made_total tree = total 0 made_count tree
 -- one more than the greatest qubit that targets or instructions name, and 0 where they name none; observables likewise
 abbrev pub qubits_named : List Target → ℕ
 qubits_named targets = greatest_by qubits_to targets
-
-abbrev pub qubits_over : List Instruction → ℕ
-qubits_over instructions = greatest_by (λ i. qubits_named i.targets) instructions
 
 abbrev pub observables_over : List Instruction → ℕ
 observables_over instructions = greatest_by (λ i. observables_to i.operation i.arguments) instructions

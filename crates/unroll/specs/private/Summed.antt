@@ -11,7 +11,7 @@ use Rattle.stim_lexer.specs.Passes.{Pass}
 use Rattle.circuit_walk.specs.Refusals.{first_observable_beyond, most_observables, reaches_far}
 use Rattle.unroll.specs.private.Counted.{first_far_from}
 use Rattle.circuit_walk.specs.Totals.{observable_total, observables_to, qubit_total, step_total}
-use Rattle.unroll.specs.private.MadeTotals.{fault_count, fault_total, made_count, made_total, collapse_count, collapse_total, detector_count, detector_total, listed_count, listed_total, qubits_named, record_count, record_total, step_count}
+use Rattle.unroll.specs.private.MadeTotals.{fault_count, fault_total, made_count, made_total, collapse_count, collapse_total, detector_count, detector_total, qubits_named, record_count, record_total, step_count}
 
 abbrev pub greatest : ℕ
 greatest = 2 ^ 64 - 1
@@ -34,7 +34,6 @@ nothing_summed =
       records = 0;
       collapses = 0;
       detectors = 0;
-      listed = 0;
       faults = 0;
       steps = 0;
       made = 0;
@@ -49,7 +48,6 @@ pub record SumsFit (t : Totals) : Type 0 where
   pub records : t.records ≤ greatest
   pub collapses : t.collapses ≤ greatest
   pub detectors : t.detectors ≤ greatest
-  pub listed : t.listed ≤ greatest
   pub faults : t.faults ≤ greatest
 
 -- the totals after one more instruction
@@ -59,7 +57,6 @@ totals_after i t =
       records = capped_sum t.records (record_count i);
       collapses = capped_sum t.collapses (collapse_count i);
       detectors = capped_sum t.detectors (detector_count i);
-      listed = capped_sum t.listed (listed_count i);
       faults = capped_sum t.faults (fault_count i);
       steps = capped_sum t.steps (step_count i);
       made = capped_sum t.made (made_count i);
@@ -76,7 +73,6 @@ totals_repeated turns before after =
       records = repeated_sum turns before.records after.records;
       collapses = repeated_sum turns before.collapses after.collapses;
       detectors = repeated_sum turns before.detectors after.detectors;
-      listed = repeated_sum turns before.listed after.listed;
       faults = repeated_sum turns before.faults after.faults;
       steps = repeated_sum turns before.steps (capped_sum after.steps 1);
       made = repeated_sum turns before.made after.made;
@@ -94,7 +90,6 @@ pub record AreTotals (tree : Tree) (t : Totals) : Type 0 where
   pub records : t.records ≡ min (record_total tree) greatest
   pub collapses : t.collapses ≡ min (collapse_total tree) greatest
   pub detectors : t.detectors ≡ min (detector_total tree) greatest
-  pub listed : t.listed ≡ min (listed_total tree) greatest
   pub faults : t.faults ≡ min (fault_total tree) greatest
   pub steps : t.steps ≡ min (step_total tree) greatest
   pub made : t.made ≡ min (made_total tree) greatest

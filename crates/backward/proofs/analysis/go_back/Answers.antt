@@ -47,5 +47,5 @@ returns-clause-lines g c =
     let program = c.args.program.now.listing in
     let none : c.loop-at.at.walk.place ≡ 0 = omega (arith, c.loop-at-test.false, c.place.ensures) in
     on_ok_weaker c.random_target.result
-    (λ _. c.loop-at.invariant.lines ∙ ap (reverse {A = ErrorLine}) (ap (λ k. lines_between program k (length program.steps)) none ∙ lines_between-all program c.well_formed-2.ensures.listing))
+    (λ _. c.loop-at.invariant.lines ∙ ap (reverse {A = ErrorLine}) (ap (λ k. lines_between program k (length program.steps)) none ∙ lines_between-all program c.well_formed-2.ensures))
     c.random_target.ensures.words

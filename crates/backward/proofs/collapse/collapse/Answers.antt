@@ -3,7 +3,7 @@ use Rattle.std.proofs.Common.{◌≡◌, ◌+◌, ◌-◌, ◌<◌, Bool, List, 
 use Rattle.std.specs.Prelude.{All, IfSome}
 use Rattle.std.proofs.lemmas.Result.{err_from_is_err_and}
 use Rattle.step_model.specs.Targets.{targets_of}
-use Rattle.programs.specs.Listed.{recorded}
+use Rattle.circuit_walk.specs.Steps.{recorded}
 use Rattle.backward.specs.private.Collapses.{members_at, noted, undone_collapse}
 use Rattle.backward.specs.private.Passes.{IsJudged, opened}
 use Rattle.backward.specs.private.Stretches.{Gives}
@@ -23,7 +23,7 @@ pub judge-requires-clause-left : goal.judge-requires-clause-left
 judge-requires-clause-left g c =
     let f = c.args.found.now in
     let step = c.requires.step in
-    collapse_is_left c.args.program.now.listing f.settled c.args.at.now.walk.place step.measured (recorded c.args.rec step.inverted c.args.flip) f.latest.items f.left c.well_formed-2.ensures.listing step.step c.requires.passed.judged
+    collapse_is_left c.args.program.now.listing f.settled c.args.at.now.walk.place step.measured (recorded c.args.rec step.inverted c.args.flip) f.latest.items f.left c.well_formed-2.ensures step.step c.requires.passed.judged
 
 pub judge-requires-clause-long : goal.judge-requires-clause-long
 judge-requires-clause-long g c =
@@ -75,7 +75,7 @@ returns g c =
     let place = at.walk.place in
     let tracked = g.T.Tracker.tracked at.tracker in
     let holds = g.L.LineStore.holds in
-    let fits = c.well_formed-2.ensures.listing in
+    let fits = c.well_formed-2.ensures in
     let now = c.let_go.new.self in
     let settled = c.take_back.ensures.settled ∙ c.judge.ensures.settled in
     let known = c.take_back.ensures.known ∙ c.judge.ensures.known in

@@ -5,6 +5,7 @@ use Rattle.std.proofs.lemmas.Result.{on_ok_weaker}
 use Rattle.step_model.specs.Targets.{targets_of}
 use Rattle.backward.specs.private.Collapses.{undone_collapse}
 use Rattle.backward.specs.private.Stretches.{Gives, flip_line}
+use Rattle.backward.proofs.PassSteps.{flip_named}
 use Rattle.backward.proofs.RecordMembers.{members_at-ascend, members_at-within}
 use Rattle.backward.proofs.StepLemmas.{on_ok_any}
 use Rattle.backward.proofs.collapse.take_back.Goals as goal
@@ -14,6 +15,12 @@ note_flip-requires-clause-named g c =
     let fits = c.requires.fits in
     let n = length (targets_of c.args.program.now.listing) in
     subst (All (λ t. t < n)) (sym c.in-Some.ensures) (members_at-within c.args.found.now.lists c.args.rec n fits.is_record fits.long)
+
+pub note_flip-requires-clause-flip : goal.note_flip-requires-clause-flip
+note_flip-requires-clause-flip g c = flip_named c.args.program.now c.args.rec c.args.flip c.requires.fits.is_named
+
+pub note_flip-requires-in-None-clause-flip : goal.note_flip-requires-in-None-clause-flip
+note_flip-requires-in-None-clause-flip g c = flip_named c.args.program.now c.args.rec c.args.flip c.requires.fits.is_named
 
 pub undo_collapse-requires-clause-ascending : goal.undo_collapse-requires-clause-ascending
 undo_collapse-requires-clause-ascending g c =

@@ -1,7 +1,8 @@
 use Rattle.std.proofs.Common.{◌<◌, length, take, ap, subst, sym, ◌∙◌}
 use Rattle.std.specs.Prelude.{All}
 use Rattle.std.proofs.lemmas.Result.{on_ok_weaker}
-use Rattle.programs.specs.Kept.{KeptProgram, kept_at}
+use Rattle.circuit_walk.specs.Programs.{KeptProgram}
+use Rattle.step_model.specs.Chances.{chance_at}
 use Rattle.step_model.specs.Targets.{targets_of}
 use Rattle.backward.specs.private.Stretches.{Gives, line_for}
 use Rattle.backward.proofs.LentHits.{all_of_reversed}
@@ -28,5 +29,5 @@ returns-clause-lines g c =
     let holds = g.L.LineStore.holds in
     on_ok_weaker c.note_line.result
     (subst (Gives (holds c.args.lines.now) (holds c.note_line.new.lines))
-    (ap (line_for (kept_at c.args.program.now c.args.entry).text) (c.as_slice.ensures.value ∙ c.in_ok-hit.ensures.hit)))
+    (ap (line_for (chance_at c.args.program.now.chances c.args.chance).text) (c.as_slice.ensures.value ∙ c.in_ok-hit.ensures.hit)))
     c.note_line.ensures.lines

@@ -2,8 +2,8 @@ use Rattle.std.proofs.Common.{◌≡◌, ℕ, Bool, true, false, Some, None, ref
 use Rattle.std.specs.Prelude.{if◌then◌else◌}
 use Rattle.std.specs.Bool.{then_some}
 use Rattle.std.proofs.lemmas.Result.{on_ok_weaker}
-use Rattle.programs.specs.Named.{IsStepOf}
-use Rattle.backward.proofs.PassSteps.{letter_at_place, passed-one, passed-two}
+use Rattle.circuit_walk.specs.Named.{IsStepOf}
+use Rattle.backward.proofs.PassSteps.{letter_at_place, passed-one, passed-two, word_at_place}
 use Rattle.backward.proofs.StepLemmas.{at_step, one_gone_over, over_quiet, stays_as}
 use Rattle.backward.proofs.pass.go_over.Goals as goal
 
@@ -19,6 +19,17 @@ collapse-requires-clause-step g c =
     let at = at_step program place s.is c.requires.before.step_is in
     let named = subst (IsStepOf program) s.is c.requires.named in
     letter_at_place program place s.letter s.qubit s.reset s.inverted s.rec s.flip c.then_some-reset.result at (c.then_some-reset.ensures ∙ some_where s.reset s.qubit) named.1 named.2 named.3
+
+pub collapse_word-requires-clause-small : goal.collapse_word-requires-clause-small
+collapse_word-requires-clause-small g c = (subst (IsStepOf c.args.program.now) c.in-CollapseWord.is c.requires.named).0
+
+pub collapse_word-requires-clause-step : goal.collapse_word-requires-clause-step
+collapse_word-requires-clause-step g c =
+    let program = c.args.program.now in
+    let place = c.args.at.now.walk.place in
+    let s = c.in-CollapseWord in
+    let named = subst (IsStepOf program) s.is c.requires.named in
+    word_at_place program place s.letters s.inverted s.rec s.flip (at_step program place s.is c.requires.before.step_is) named.1.terms_fit named.2 named.3
 
 pub faults_back-requires-clause-before : goal.faults_back-requires-clause-before
 faults_back-requires-clause-before g c =
@@ -47,4 +58,4 @@ pub returns-in-Collapse : goal.returns-in-Collapse
 returns-in-Collapse g c = one_gone_over c.args.to c.requires.before.above c.collapse.ensures
 
 pub returns-in-CollapseWord : goal.returns-in-CollapseWord
-returns-in-CollapseWord g c = one_gone_over c.args.to c.requires.before.above c.collapse-in-CollapseWord.ensures
+returns-in-CollapseWord g c = one_gone_over c.args.to c.requires.before.above c.collapse_word.ensures

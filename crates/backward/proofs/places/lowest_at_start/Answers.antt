@@ -40,7 +40,7 @@ loop-qubit-preserved g c =
       lowest =
           c.in_ok-note.ensures
           ∙ (ap₂ (noted qubit) hit c.loop-qubit.invariant.lowest
-          ∙ lowest_below-more program qubit c.well_formed-2.ensures.listing.steps_fit (omega (arith, c.loop-qubit-test.true, c.qubits-qubit-end.ensures)));
+          ∙ lowest_below-more program qubit c.well_formed-2.ensures.steps_fit (omega (arith, c.loop-qubit-test.true, c.qubits-qubit-end.ensures)));
     }
 
 pub returns-clause-lowest : goal.returns-clause-lowest

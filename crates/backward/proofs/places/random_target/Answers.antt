@@ -11,7 +11,7 @@ lowest_at_start-requires g c = c.requires.passed.words
 pub returns-clause-none : goal.returns-clause-none
 returns-clause-none g c =
     let program = c.args.program.now.listing in
-    let fits = c.well_formed-2.ensures.listing in
+    let fits = c.well_formed-2.ensures in
     let f = c.args.found.now in
     let judged = subst (λ s. IsJudged program s 0 f.latest.items f.left) c.requires.first c.requires.passed.judged in
     let count = c.target_count-targets.ensures.count in
@@ -25,7 +25,7 @@ returns-clause-none g c =
 pub returns-clause-lowest : goal.returns-clause-lowest
 returns-clause-lowest g c =
     let program = c.args.program.now.listing in
-    let fits = c.well_formed-2.ensures.listing in
+    let fits = c.well_formed-2.ensures in
     let f = c.args.found.now in
     let judged = subst (λ s. IsJudged program s 0 f.latest.items f.left) c.requires.first c.requires.passed.judged in
     let count = c.target_count-targets.ensures.count in

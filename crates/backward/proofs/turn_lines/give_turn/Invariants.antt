@@ -10,5 +10,5 @@ invariant-loop-i g l =
     record {
       program : g.L.LineStore.program l.lines ≡ g.L.LineStore.program l.fn.lines;
       gives : Gives (g.L.LineStore.holds l.fn.lines) (g.L.LineStore.holds l.lines)
-          (moved_error_lines l.staying l.by (kept_lines turn.program.now (take l.i turn.entries.items) (take l.i turn.targets)));
+          (moved_error_lines l.staying l.by (kept_lines turn.program.now (take l.i turn.chances.items) (take l.i turn.targets)));
     }

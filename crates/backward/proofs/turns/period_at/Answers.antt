@@ -1,7 +1,7 @@
 use Rattle.std.proofs.Common.{◌≡◌, ◌+◌, ℕ, true, false, length, take, ap, subst, ◌∙◌, arith}
 use Rattle.std.proofs.lemmas.Bool.Decides.{nat_tests}
 use Rattle.step_model.specs.WellFormed.{records_made}
-use Rattle.programs.specs.Kept.{KeptProgram}
+use Rattle.circuit_walk.specs.Programs.{KeptProgram}
 use Rattle.backward.specs.private.MovedTargets.{IsShiftOf, earlier_list, list_then}
 use Rattle.step_model.specs.Targets.{targets_of}
 use Rattle.backward.specs.private.Passes.{HoldsLists, records_before}

@@ -10,7 +10,7 @@ jump : (g : Over) (c : In_ok-lists g) → Jumped c.args.program.now c.args.found
 jump g c =
     let pass = c.pass_turns_back-turns in
     jumped c.args.program.now c.args.found.now c.args.period.now c.copy-walk.result pass.new.self pass.result c.args.at.now.walk.place (g.T.Tracker.tracked c.args.at.now.tracker) c.in_ok-lists.lists c.records.result
-    c.well_formed-2.ensures.listing c.requires.period c.copy-walk.ensures pass.ensures.program pass.ensures.place (pass.ensures.repeat (omega (arith, c.if-turns-eq0.false))) (pass.ensures.faults (omega (arith, c.if-turns-eq0.false))) c.records.ensures (omega (arith, c.if-records-period.false)) c.in_ok-lists.ensures c.requires.passed.words
+    c.well_formed-2.ensures c.requires.period c.copy-walk.ensures pass.ensures.program pass.ensures.place (pass.ensures.repeat (omega (arith, c.if-turns-eq0.false))) (pass.ensures.faults (omega (arith, c.if-turns-eq0.false))) c.records.ensures (omega (arith, c.if-records-period.false)) c.in_ok-lists.ensures c.requires.passed.words
 
 always : {T E : Type 0} (P : Type 0) (r : Result T E) → P → OnOk r P
 always P (Ok x) p = p

@@ -1,6 +1,6 @@
 use Rattle.std.proofs.Common.{ap, subst, sym}
 use Rattle.std.specs.Prelude.{not}
-use Rattle.programs.specs.Turns.{AreFedFrom}
+use Rattle.circuit_walk.specs.Turns.{AreFedFrom}
 use Rattle.backward.specs.private.Passes.{records_before}
 use Rattle.backward.proofs.turns.turn_to.Goals as goal
 

@@ -31,6 +31,9 @@ write_segments-requires-clause-ready g c =
 pub returns-in_err-random : goal.returns-in_err-random
 returns-in_err-random g c = failed_answer (err_from_is_err_and c.from_residual.result c.from_residual.ensures.1).1 (inl (refl, refl))
 
+pub returns-in_err-coordinates-in-None : goal.returns-in_err-coordinates-in-None
+returns-in_err-coordinates-in-None g c = failed_answer (err_from_is_err_and c.from_residual-in_err-coordinates-in-None.result c.from_residual-in_err-coordinates-in-None.ensures.1).1 (inl (refl, refl))
+
 pub returns-in-Some : goal.returns-in-Some
 returns-in-Some g c =
     record {
@@ -55,7 +58,7 @@ returns-in_err-write_segments-in-None g c =
     (inr (
       subst (λ o. IfNone o (NoneIsRandom program)) c.in-None.is c.in_ok-random.ensures.none,
       some-then c.args.sink.now c.args.sink.now c.write_segments.new.sink c.args.out.now c.args.out.now c.write_segments.new.out _ (text_between program 0 cut) (text_between program cut (length program.steps) ++ (detectors_text (model_of program) ++ observables_text (model_of program))) _
-          (whole_model program cut c.well_formed-2.ensures.listing (omega (arith, on, below))) Pushes-nil c.in_err-write_segments-in-None.ensures.some,
+          (whole_model program cut c.well_formed-2.ensures (omega (arith, on, below))) Pushes-nil c.in_err-write_segments-in-None.ensures.some,
     ))
 
 pub returns-in_err-push_kept-in-None : goal.returns-in_err-push_kept-in-None
@@ -70,7 +73,7 @@ returns-in_err-push_kept-in-None g c =
     (inr (
       subst (λ o. IfNone o (NoneIsRandom program)) c.in-None.is c.in_ok-random.ensures.none,
       some-then c.args.sink.now c.write_segments.new.sink c.push_kept.new.sink c.args.out.now c.write_segments.new.out c.push_kept.new.out (text_between program 0 cut) (text_between program cut mid) rest _
-          (sym (append_assoc (text_between program 0 cut) (text_between program cut mid) rest) ∙ ap (λ (l : List ℕ). l ++ rest) (text_between-parts program 0 cut mid (omega arith) on) ∙ whole_model program mid c.well_formed-2.ensures.listing part.below) c.in_ok-write_segments-in-None.ensures.text c.in_err-push_kept-in-None.ensures.some,
+          (sym (append_assoc (text_between program 0 cut) (text_between program cut mid) rest) ∙ ap (λ (l : List ℕ). l ++ rest) (text_between-parts program 0 cut mid (omega arith) on) ∙ whole_model program mid c.well_formed-2.ensures part.below) c.in_ok-write_segments-in-None.ensures.text c.in_err-push_kept-in-None.ensures.some,
     ))
 
 pub returns-in_ok-push_kept-in-None : goal.returns-in_ok-push_kept-in-None
@@ -86,7 +89,7 @@ returns-in_ok-push_kept-in-None g c =
       none = subst (λ o. IfNone o (NoneIsRandom program)) c.in-None.is c.in_ok-random.ensures.none;
       text =
           Pushes-as c.args.sink.now c.push_declarations.new.sink c.args.out.now c.push_declarations.new.out _ _
-          (ap (λ bytes. text_between program 0 cut ++ (text_between program cut mid ++ (bytes ++ lines))) part.text ∙ sym (append_assoc (text_between program 0 cut) (text_between program cut mid) rest) ∙ ap (λ (l : List ℕ). l ++ rest) (text_between-parts program 0 cut mid (omega arith) on) ∙ whole_model program mid c.well_formed-2.ensures.listing part.below)
+          (ap (λ bytes. text_between program 0 cut ++ (text_between program cut mid ++ (bytes ++ lines))) part.text ∙ sym (append_assoc (text_between program 0 cut) (text_between program cut mid) rest) ∙ ap (λ (l : List ℕ). l ++ rest) (text_between-parts program 0 cut mid (omega arith) on) ∙ whole_model program mid c.well_formed-2.ensures part.below)
           (Pushes-trans c.in_ok-write_segments-in-None.ensures.text (Pushes-trans c.in_ok-push_kept-in-None.ensures.text (Pushes-trans c.push_to.ensures c.push_declarations.ensures)));
       lowest = tt;
       nothing = tt;

@@ -1,7 +1,11 @@
-use Rattle.std.proofs.Common.{◌≡◌, ℕ, List, suc, ◌+◌, ◌-◌, ◌++◌, [], get_or, ap, ap₂, sym, ◌∙◌, arith}
+use Rattle.std.proofs.Common.{◌≡◌, ℕ, List, suc, ◌+◌, ◌-◌, ◌++◌, [], length, get_or, ap, ap₂, sym, ◌∙◌, arith}
 use Rattle.std.specs.List.{flat_map, range_with_len}
 use Rattle.error_models.specs.ModelText.{detector_text}
 use Rattle.backward.proofs.writing.put_detectors.Goals as goal
+
+pub put-requires : goal.put-requires
+put-requires g c =
+    omega (arith, c.loop-left-test.true, c.loop-left.invariant.to, c.requires.within, ap length c.requires.given, c.well_formed-2.ensures.coordinates_given)
 
 pub loop-left-preserved : goal.loop-left-preserved
 loop-left-preserved g c =
@@ -13,10 +17,10 @@ loop-left-preserved g c =
     record {
       from = omega (arith, c.loop-left-test.true);
       to = omega (arith, c.loop-left.invariant.to);
-      room = omega (arith, c.put.ensures.room, c.loop-left.invariant.room, c.loop-left-test.true);
+      room = omega (arith, c.put-in-loop-left.ensures.room, c.loop-left.invariant.room, c.loop-left-test.true);
       text =
-          c.put.ensures.text
-          ∙ ap₂ (λ cs l. detector_text (left - 1) cs ++ l) (c.as_slice.ensures.value ∙ c.put_coordinates.ensures) c.loop-left.invariant.text
+          c.put-in-loop-left.ensures.text
+          ∙ ap₂ (λ cs l. detector_text (left - 1) cs ++ l) (c.as_slice.ensures.value ∙ c.put.ensures ∙ ap (λ cs. get_or cs (left - 1) []) c.requires.given) c.loop-left.invariant.text
           ∙ ap (λ k. f (left - 1) ++ flat_map f (range_with_len k (to - left))) (sym here)
           ∙ ap (λ n. flat_map f (range_with_len (left - 1) n)) count;
     }

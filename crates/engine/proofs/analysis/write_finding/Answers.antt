@@ -26,7 +26,7 @@ returns-in-None-clause-exact g c =
     let new = g.W.Sink.taken c.write_analysis.new.sink in
     let none = subst (λ o. IfNone o (NoneIsRandom program)) c.in-None.is c.in_ok-write_analysis.ensures.none in
     let written = subst (λ o. IfNone o (Takes old new (model_text (model_of program)))) c.in-None.is c.in_ok-write_analysis.ensures.written in
-    λ done. (model_text (model_of program), written, exact_in program c.well_formed-2.ensures.listing none)
+    λ done. (model_text (model_of program), written, exact_in program c.well_formed-2.ensures none)
 
 pub returns-in_err-write_analysis-clause-answered : goal.returns-in_err-write_analysis-clause-answered
 returns-in_err-write_analysis-clause-answered g c =

@@ -13,4 +13,4 @@ returns-clause-answered g c =
 pub returns-clause-random : goal.returns-clause-random
 returns-clause-random g c =
     told_random c.args.program.now.listing c.write_answer.ensures
-    (subst (IsRandomIn c.args.program.now.listing) (sym (c.as_slice.ensures.value ∙ c.in_ok-lines.ensures.ok)) (random_in c.args.program.now.listing c.args.which c.args.place c.well_formed-2.ensures.listing c.requires))
+    (subst (IsRandomIn c.args.program.now.listing) (sym (c.as_slice.ensures.value ∙ c.in_ok-lines.ensures.ok)) (random_in c.args.program.now.listing c.args.which c.args.place c.well_formed-2.ensures c.requires))

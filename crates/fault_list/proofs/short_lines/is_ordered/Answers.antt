@@ -2,8 +2,7 @@
 use Rattle.std.proofs.Common.{◌≡◌, ◌<◌, false, inl, inr, sym, ◌∙◌}
 use Rattle.std.specs.Prelude.{◌⊎◌, not}
 use Rattle.step_model.specs.Listing.{is_I}
-use Rattle.fault_list.proofs.TermLemmas.{term_at}
-use Rattle.fault_list.proofs.ShortLineLemmas.{ordered_until, ordered_more}
+use Rattle.fault_list.proofs.ShortLineLemmas.{ordered_until, ordered_more, term_at}
 use Rattle.fault_list.proofs.short_lines.is_ordered.Goals as goal
 use Rattle.fault_list.proofs.short_lines.is_ordered.Goals.{then-term-from-via-then-term-from, then-term-from-via-else-term-from+then-not-acts}
 

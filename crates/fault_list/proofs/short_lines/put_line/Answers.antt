@@ -1,8 +1,9 @@
-use Rattle.std.proofs.Common.{take, refl, ap, ◌∙◌, arith}
+use Rattle.std.proofs.Common.{List, take, refl, ap, ◌∙◌, arith}
 use Rattle.std.specs.Prelude.{decimal}
+use Rattle.step_model.specs.Chances.{chance_at}
 use Rattle.step_model.specs.Listing.{effect_at}
+use Rattle.step_model.specs.declared.chances.ChanceText.{ChanceText}
 use Rattle.fault_list.specs.FaultLines.{effect_text}
-use Rattle.fault_list.proofs.ProbabilityLemmas.{text_told}
 use Rattle.fault_list.proofs.PutLemmas.{before_kept, line_put}
 use Rattle.fault_list.proofs.short_lines.put_line.Goals as goal
 
@@ -20,5 +21,5 @@ returns-clause-written g c =
     let number = c.args.fault.number in
     let before = take c.args.at c.args.buffer.now in
     let effect = effect_text program.qubits (effect_at program number) in
-    let text = text_told c.args.program.now c.args.texts.now.probability.table c.args.fault.entry c.requires.texts c.requires.fault.entry in
+    let text = ap (λ (cs : List ChanceText). (chance_at cs c.args.fault.chance).text) c.requires.texts in
     line_put before (decimal number) effect c.put-end.ensures.written c.in_ok-end.ensures.put.written c.in_ok-end-2.ensures.put.written c.put_byte.ensures.written (text ∙ c.requires.fault.text)

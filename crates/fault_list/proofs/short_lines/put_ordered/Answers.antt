@@ -2,8 +2,7 @@ use Rattle.std.proofs.Common.{◌-◌, ◌++◌, length, take, drop, sym, ap, �
 use Rattle.std.proofs.lemmas.List.{take_all}
 use Rattle.fault_list.specs.FaultLines.{factor_text}
 use Rattle.fault_list.specs.private.TermLetters.{starred_factors}
-use Rattle.fault_list.proofs.TermLemmas.{term_at}
-use Rattle.fault_list.proofs.ShortLineLemmas.{ordered_text}
+use Rattle.fault_list.proofs.ShortLineLemmas.{ordered_text, term_at}
 use Rattle.fault_list.proofs.short_lines.put_ordered.Goals as goal
 
 pub returns-in-len1-up : goal.returns-in-len1-up

@@ -1,18 +1,28 @@
-use Rattle.std.proofs.Common.{arith, rules, subst}
-use Rattle.std.proofs.lemmas.Grind.{common_steps}
+-- The words of one and of two terms.
+use Rattle.std.proofs.Common.{◌≡◌, [], ◌∷◌, sym, ap, subst, ◌∙◌}
+use Rattle.step_model.specs.Listing.{word_of_terms}
+use Rattle.step_model.specs.WellFormed.{TermsFit}
+use Rattle.circuit_walk.specs.Letters.{letters_in}
 use Rattle.fault_list.specs.FaultLines.{word_text}
 use Rattle.fault_list.specs.private.PutTexts.{Puts}
-use Rattle.fault_list.proofs.TermLemmas.{word_swapped}
 use Rattle.fault_list.proofs.short_lines.put_word.Goals as goal
 
-pub returns-in-len1 : goal.returns-in-len1
-returns-in-len1 c = λ qubits fit. let put = c.put_ordered.ensures qubits (search rules) in grind (arith, common_steps)
+pub returns-in-None : goal.returns-in-None
+returns-in-None c = λ qubits fit.
+    let first = c.in_ok-first.first in
+    let parts : letters_in c.args.terms ≡ first ∷ [] = c.in_ok-first.ensures.letters ∙ ap (λ terms. first ∷ terms) c.in-None.ensures.letters in
+    subst (λ terms. Puts 192 c.args.at (word_text (word_of_terms qubits terms)) c.args.buffer.now c.put_ordered.new.buffer c.put_ordered.result)
+    (sym parts)
+    (c.put_ordered.ensures qubits (subst (TermsFit qubits) parts fit))
 
-pub returns-in-len2-2 : goal.returns-in-len2-2
-returns-in-len2-2 c = λ qubits fit. let put = c.put_ordered-in-len2-2.ensures qubits (search rules) in grind (arith, common_steps)
-
-pub returns-in-len2 : goal.returns-in-len2
-returns-in-len2 c = λ qubits fit.
-    subst (λ w. Puts 192 c.args.at (word_text w) c.args.buffer.now c.put_ordered-in-len2.new.buffer c.put_ordered-in-len2.result)
-    (word_swapped qubits c.args.terms.now c.in-len2.len_at_least c.in-len2.len_below)
-    (c.put_ordered-in-len2.ensures qubits (search rules))
+pub returns-in-None-split_first : goal.returns-in-None-split_first
+returns-in-None-split_first c = λ qubits fit.
+    let first = c.in_ok-first.first in
+    let second = c.in-Some.second in
+    let parts : letters_in c.args.terms ≡ first ∷ second ∷ [] =
+    c.in_ok-first.ensures.letters
+    ∙ (ap (λ terms. first ∷ terms) c.in-Some.ensures.letters
+    ∙ ap (λ terms. first ∷ second ∷ terms) c.in-None-split_first.ensures.letters) in
+    subst (λ terms. Puts 192 c.args.at (word_text (word_of_terms qubits terms)) c.args.buffer.now c.put_two.new.buffer c.put_two.result)
+    (sym parts)
+    (c.put_two.ensures qubits (subst (TermsFit qubits) parts fit))

@@ -1,7 +1,6 @@
 use Rattle.std.proofs.Common.{◌∙◌}
 use Rattle.step_model.specs.Listing.{effect_at}
-use Rattle.programs.specs.Kept.{none_kept}
-use Rattle.fault_list.proofs.EffectLemmas.{effect_text-flips, effect_text-applies}
+use Rattle.fault_list.proofs.EffectLemmas.{effect_text-flips, letters_fit, letters_text}
 use Rattle.fault_list.proofs.text.write_effect.Goals as goal
 
 pub returns-in-Some : goal.returns-in-Some
@@ -11,11 +10,10 @@ returns-in-Some g c =
 
 pub write_word-requires : goal.write_word-requires
 write_word-requires g c =
-    rw (c.qubits.ensures, c.entry_terms.ensures)
-    (record { room = c.requires.room; terms = c.well_formed-2.ensures.kept.kept_fit c.args.fault.entry none_kept c.requires.fault.entry })
+    rw c.qubits.ensures
+    (record { room = c.requires.room; small = c.requires.fault.small; terms = letters_fit c.args.program.now c.args.fault c.well_formed-2.ensures c.requires.fault })
 
 pub returns-in-None : goal.returns-in-None
 returns-in-None g c =
-    let program = c.args.program.now.listing in
-    let word = rw (c.qubits.ensures, c.entry_terms.ensures ∙ c.requires.fault.terms) at c.write_word.ensures in
-    rw (effect_text-applies program.qubits (effect_at program c.args.fault.number) (c.requires.fault.flips ∙ c.in-None.is)) word
+    let word = rw c.qubits.ensures at c.write_word.ensures in
+    rw (letters_text c.args.program.now c.args.fault c.requires.fault c.in-None.is) word

@@ -1,11 +1,8 @@
 -- Each fault's line is pushed or held in its turn.
 use Rattle.std.proofs.Common.{◌+◌, length, refl, sym, subst, ◌∙◌, arith}
-use Rattle.step_model.specs.WellFormed.{IsWellFormed}
-use Rattle.programs.specs.Entries.{TellsChances}
-use Rattle.programs.specs.Kept.{KeptProgram}
-use Rattle.programs.specs.declared.entries.ChanceTable.{ChanceTable}
-use Rattle.programs.specs.Found.{IsFaultOf, faults_left}
-use Rattle.programs.proofs.FaultOrders.{takes_number, none_left_of}
+use Rattle.circuit_walk.specs.Found.{IsFaultOf, faults_left}
+use Rattle.circuit_walk.specs.Programs.{KeptProgram}
+use Rattle.circuit_walk.proofs.FaultOrders.{takes_number, none_left_of}
 use Rattle.fault_list.specs.FaultLines.{fault_line}
 use Rattle.fault_list.proofs.HeldLineLemmas.{nothing_held, held_number, all_out}
 use Rattle.fault_list.proofs.LineLemmas.{left_at_start, lines_all}
@@ -17,11 +14,8 @@ loop-fault-init g c =
       program = c.start-walk.ensures.program;
       held = omega arith;
       texts = c.new.ensures;
-      rest = (0, omega arith, left_at_start c.args.program.now c.start-walk.result c.well_formed-2.ensures.listing c.start-walk.ensures.program c.start-walk.ensures.place, nothing_held);
+      rest = (0, omega arith, left_at_start c.args.program.now c.start-walk.result c.well_formed-2.ensures c.start-walk.ensures.program c.start-walk.ensures.place, nothing_held);
     }
-
-pub next_fault-requires : goal.next_fault-requires
-next_fault-requires g c = subst (λ (p : KeptProgram). IsWellFormed p.listing) (sym c.loop-fault.invariant.program) c.well_formed-2.ensures.listing
 
 pub write_line-held-requires-clause-fault : goal.write_line-held-requires-clause-fault
 write_line-held-requires-clause-fault g c =
@@ -37,7 +31,7 @@ loop-fault-preserved g c =
     record {
       program = c.in-Some.ensures.program ∙ c.loop-fault.invariant.program;
       held = c.write_line-held.ensures.held;
-      texts = subst (λ (t : ChanceTable). TellsChances c.args.program.now.kept t) (sym c.write_line-held.ensures.texts) c.loop-fault.invariant.texts;
+      texts = c.write_line-held.ensures.texts ∙ c.loop-fault.invariant.texts;
       rest = (i + 1, omega (arith, takes.below), takes.rest_is, held_number (fault_line program) i c.loop-fault.invariant.rest.3 line);
     }
 

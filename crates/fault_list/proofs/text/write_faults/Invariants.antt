@@ -1,7 +1,6 @@
 use Rattle.std.proofs.Common.{◌≡◌, ◌≤◌, ◌-◌, ℕ, [], length, take}
 use Rattle.std.specs.List.{flat_map, range_with_len}
-use Rattle.programs.specs.Entries.{TellsChances}
-use Rattle.programs.specs.Found.{faults_left}
+use Rattle.circuit_walk.specs.Found.{faults_left}
 use Rattle.fault_list.specs.FaultLines.{fault_line}
 use Rattle.fault_list.specs.private.HeldLines.{PushesSome}
 use Rattle.fault_list.proofs.text.write_faults.Given as goal
@@ -12,7 +11,7 @@ invariant-loop-fault g l =
     record {
       program : l.walk.program ≡ l.program;
       held : l.held ≤ 20224;
-      texts : TellsChances l.program.kept l.desk.texts.probability.table;
+      texts : l.desk.texts.probability.chances ≡ l.program.chances;
       rest : (i : ℕ) × (i ≤ length l.program.listing.faults) × (faults_left l.walk ≡ range_with_len i (length l.program.listing.faults - i)) × PushesSome g.W.Sink.taken g.W.Sink.failures l.fn.sink l.sink l.fn.out l.out [] (take l.held l.desk.lines) (flat_map (fault_line l.program.listing) (range_with_len 0 i));
     }
 

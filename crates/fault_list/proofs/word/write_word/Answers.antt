@@ -3,6 +3,7 @@ use Rattle.std.proofs.Common.{◌≡◌, ◌++◌, true, length, take, sym, ap, 
 use Rattle.std.specs.Prelude.{◌&&◌}
 use Rattle.step_model.proofs.Pushing.{Pushes-trans, Pushes-nil}
 use Rattle.step_model.specs.Listing.{word_of_terms}
+use Rattle.circuit_walk.specs.Letters.{letters_in}
 use Rattle.fault_list.specs.private.FactorTexts.{is_none, joined, joined_on, term_factors}
 use Rattle.fault_list.proofs.FactorLemmas.{factors_below}
 use Rattle.fault_list.proofs.FactorTextLemmas.{joined_on-append, none-append, product_text-some, product_text-none}
@@ -12,7 +13,7 @@ use Rattle.fault_list.proofs.word.write_word.Goals as goal
 pub loop-from-init : goal.loop-from-init
 loop-from-init g c =
     let e = c.lowest_from-from.ensures in
-    let none = none_before c.args.qubits c.args.terms.now c.lowest_from-from.result c.requires.terms e.within e.lowest in
+    let none = none_before c.args.qubits (letters_in c.args.terms) c.lowest_from-from.result c.requires.terms e.within e.lowest in
     record {
       within = e.within;
       first = sym (ap is_none none);
@@ -22,7 +23,7 @@ loop-from-init g c =
 pub loop-from-preserved : goal.loop-from-preserved
 loop-from-preserved g c =
     let n = c.args.qubits in
-    let terms = c.args.terms.now in
+    let terms = letters_in c.args.terms in
     let q = c.loop-from.from in
     let span = c.span_of-span.result in
     let next = c.lowest_from-from-in-loop-from.result in
@@ -46,14 +47,14 @@ loop-from-preserved g c =
 
 pub returns-then-first : goal.returns-then-first
 returns-then-first g c =
-    let all = all_below c.args.qubits c.args.terms.now c.loop-from.from c.loop-from.invariant.within c.loop-from-test.false in
-    let fs = factors_below (word_of_terms c.args.qubits c.args.terms.now) c.loop-from.from in
+    let all = all_below c.args.qubits (letters_in c.args.terms) c.loop-from.from c.loop-from.invariant.within c.loop-from-test.false in
+    let fs = factors_below (word_of_terms c.args.qubits (letters_in c.args.terms)) c.loop-from.from in
     let text = product_text-none fs (sym c.loop-from.invariant.first ∙ c.if-first.true) in
     rw (← all, ← text) (Pushes-trans c.loop-from.invariant.pushed c.push.ensures)
 
 pub returns-else-first : goal.returns-else-first
 returns-else-first g c =
-    let all = all_below c.args.qubits c.args.terms.now c.loop-from.from c.loop-from.invariant.within c.loop-from-test.false in
-    let fs = factors_below (word_of_terms c.args.qubits c.args.terms.now) c.loop-from.from in
+    let all = all_below c.args.qubits (letters_in c.args.terms) c.loop-from.from c.loop-from.invariant.within c.loop-from-test.false in
+    let fs = factors_below (word_of_terms c.args.qubits (letters_in c.args.terms)) c.loop-from.from in
     let text = product_text-some fs (sym c.loop-from.invariant.first ∙ c.if-first.false) in
     rw (← all, ← text) c.loop-from.invariant.pushed

@@ -8,5 +8,5 @@ abbrev pub invariant-loop-number : goal.invariant-loop-number
 invariant-loop-number g l =
     record {
       answered : l.answers.items ≡ map (λ named. exclusive_or (parity named l.records) (parity named l.reference)) (take l.number (targets_of l.program.listing));
-      room : vec_capacity l.answers ≡ l.targets;
+      room : vec_capacity l.answers ≡ l.count;
     }

@@ -1,5 +1,5 @@
 use Rattle.std.proofs.Common.{◌≡◌, length, vec_capacity}
-use Rattle.programs.specs.Found.{faults_left}
+use Rattle.circuit_walk.specs.Found.{faults_left}
 use Rattle.forward_sim.proofs.BoundWalks.{BoundsBehind}
 use Rattle.forward_sim.proofs.drawing.fault_bounds.Given as goal
 

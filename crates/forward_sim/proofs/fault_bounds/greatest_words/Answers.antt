@@ -2,22 +2,17 @@
 use Rattle.std.proofs.Common.{◌≡◌, ◌+◌, ◌∷◌, [], ◌++◌, length, length-append, refl, sym, ap, subst, ◌∙◌}
 use Rattle.std.proofs.lemmas.List.{map-append}
 use Rattle.forward_sim.specs.private.BoundRuns.{bounds_above}
-use Rattle.forward_sim.proofs.BoundWalks.{BoundsBehind, all_behind, none_behind, one_more_behind, walk_fits}
+use Rattle.forward_sim.proofs.BoundWalks.{BoundsBehind, all_behind, none_behind, one_more_behind}
 use Rattle.forward_sim.proofs.fault_bounds.greatest_words.Goals as goal
 
 pub loop-fault-init : goal.loop-fault-init
 loop-fault-init g c =
     let program = c.args.program.now in
-    let none = none_behind program c.start-walk.result c.well_formed-2.ensures.listing c.start-walk.ensures.program c.start-walk.ensures.place in
+    let none = none_behind program c.start-walk.result c.well_formed-2.ensures c.start-walk.ensures.program c.start-walk.ensures.place in
     record {
       room = c.in_ok-words.ensures.exact ∙ c.fault_count.ensures;
       behind = subst (λ words. BoundsBehind program c.start-walk.result (length words) (bounds_above words)) (sym c.in_ok-words.ensures.items) none;
     }
-
-pub next_fault-requires : goal.next_fault-requires
-next_fault-requires g c =
-    let words = c.loop-fault.words.items in
-    walk_fits c.args.program.now c.loop-fault.walk (length words) (bounds_above words) c.loop-fault.invariant.behind c.well_formed-2.ensures.listing
 
 pub loop-fault-preserved : goal.loop-fault-preserved
 loop-fault-preserved g c =
@@ -27,8 +22,8 @@ loop-fault-preserved g c =
     let fault = c.in-Some in
     let more =
     one_more_behind program c.loop-fault.walk (length words) (bounds_above words) c.loop-fault.invariant.behind c.next_fault.new.walk fault.fault fault.ensures.found fault.ensures.next
-    c.entry_bound-bound.result fault.ensures.program c.entry_bound-bound.ensures in
-    let bounds : bounds_above words ++ c.entry_bound-bound.result ∷ [] ≡ bounds_above (words ++ most ∷ []) =
+    c.chance_bound-bound.result fault.ensures.program c.chance_bound-bound.ensures in
+    let bounds : bounds_above words ++ c.chance_bound-bound.result ∷ [] ≡ bounds_above (words ++ most ∷ []) =
     ap (λ bound. bounds_above words ++ bound ∷ []) (c.word_below.ensures.next c.if-bound.false) ∙ sym (map-append (λ w. w + 1) words (most ∷ [])) in
     let pushed = subst (BoundsBehind program c.next_fault.new.walk (length words + 1)) bounds more in
     let counted = subst (λ n. BoundsBehind program c.next_fault.new.walk n (bounds_above (words ++ most ∷ []))) (sym (length-append words (most ∷ []))) pushed in

@@ -1,10 +1,11 @@
 -- What is read is the letters of the row's stabilizer, where one may be replaced.
 use Rattle.std.proofs.Common.{◌≡◌, ℕ, Bool, true, false, List, length, Option, ap, subst, sym, ◌∙◌}
 use Rattle.std.specs.Prelude.{IfSome}
+use Rattle.circuit_walk.specs.Letters.{letters_in}
 use Rattle.pauli_word.specs.declared.letter.Letter.{Letter}
 use Rattle.pauli_word.specs.States.{State}
 use Rattle.pauli_word.specs.Words.{lone_letter}
-use Rattle.programs.specs.Listed.{listed, measured}
+use Rattle.circuit_walk.specs.Steps.{listed, measured}
 use Rattle.step_model.specs.declared.step.Term.{Term}
 use Rattle.step_model.specs.Listing.{measured_word, word_of_terms}
 use Rattle.tableau.specs.Rows.{stabilizer_at, NamesRandom}
@@ -34,7 +35,7 @@ returns-in-Collapse-clause-entry g c =
     let s = c.in-Collapse in
     let entry = entry_of c.read_row.new.word.terms in
     let read = of_row old row.new.machine (lone_letter (qubit_count old) s.qubit s.letter) row.result entry row.ensures.same row.ensures.row c.read_row.ensures.long c.read_row.ensures.read in
-    subst (λ step. IsStepEntry n (run_of old).state (listed n program.products step) entry) (sym s.is)
+    subst (λ step. IsStepEntry n (run_of old).state (listed n step) entry) (sym s.is)
     (of_letter n (run_of old).state s.letter s.qubit s.reset entry
     (subst (λ m. IsEntry m (run_of old).state (lone_letter m s.qubit s.letter) entry) c.requires.step.qubits read))
 
@@ -44,9 +45,8 @@ returns-in-CollapseWord-clause-entry g c =
     let n = program.listing.qubits in
     let old = c.args.machine.now in
     let row = c.product_row-row in
-    let terms = c.product.result.now in
+    let terms = letters_in c.in-CollapseWord.letters in
     let entry = entry_of c.read_row-in-CollapseWord.new.word.terms in
     let read = of_row old row.new.machine (word_of_terms (qubit_count old) terms) row.result entry row.ensures.same row.ensures.row c.read_row-in-CollapseWord.ensures.long c.read_row-in-CollapseWord.ensures.read in
-    subst (λ step. IsStepEntry n (run_of old).state (listed n program.products step) entry) (sym c.in-CollapseWord.is)
-    (subst (λ ts. IsEntry n (run_of old).state (word_of_terms n ts) entry) c.product.ensures
-    (subst (λ m. IsEntry m (run_of old).state (word_of_terms m terms) entry) c.requires.step.qubits read))
+    subst (λ step. IsStepEntry n (run_of old).state (listed n step) entry) (sym c.in-CollapseWord.is)
+    (subst (λ m. IsEntry m (run_of old).state (word_of_terms m terms) entry) c.requires.step.qubits read)

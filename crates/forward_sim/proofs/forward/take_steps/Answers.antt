@@ -1,7 +1,7 @@
 -- Each step, and then the quiet faults behind it, lead from what is left before them to what is left behind them.
 use Rattle.std.proofs.Common.{◌≡◌, length, sym, ap, subst, ◌∙◌, arith}
-use Rattle.programs.specs.Kept.{KeptProgram}
-use Rattle.programs.specs.Turns.{faults_before}
+use Rattle.circuit_walk.specs.Programs.{KeptProgram}
+use Rattle.circuit_walk.specs.Walks.{faults_before}
 use Rattle.step_model.specs.Runs.{records_of, start}
 use Rattle.forward_sim.specs.private.Machines.{qubit_count, run_of}
 use Rattle.forward_sim.specs.SameRuns.{IsSameRun}
@@ -26,7 +26,7 @@ loop-step-init g c =
     record {
       program = c.start-walk.ensures.program;
       along =
-          along_start c.args.program.now.listing c.args.faults.now c.args.coins.now _ (qubit_count machine) machine.room (run_of machine) c.well_formed-2.ensures.listing c.start-walk.ensures.place
+          along_start c.args.program.now.listing c.args.faults.now c.args.coins.now _ (qubit_count machine) machine.room (run_of machine) c.well_formed-2.ensures c.start-walk.ensures.place
           (made.qubits ∙ c.qubits-qubits.ensures) (made.room ∙ c.record_count.ensures) (subst (λ n. IsSameRun n (run_of machine) (start c.args.coins.now)) c.qubits-qubits.ensures made.run);
       none = λ f from to. absurd (omega arith);
     }
@@ -35,7 +35,7 @@ pub take_step-requires : goal.take_step-requires
 take_step-requires g c =
     let here = (goal.at.take_step-requires g c).In-Some in
     let m = c.loop-step.machine in
-    along_can c.args.program.now c.loop-step.walk c.next_step.new.self c.in-Some.step c.args.faults.now c.args.coins.now (qubit_count m) m.room (run_of m) c.well_formed-2.ensures.listing (over g here) c.loop-step.invariant.along
+    along_can c.args.program.now c.loop-step.walk c.next_step.new.self c.in-Some.step c.args.faults.now c.args.coins.now (qubit_count m) m.room (run_of m) c.well_formed-2.ensures (over g here) c.loop-step.invariant.along
 
 pub pass_quiet-requires : goal.pass_quiet-requires
 pass_quiet-requires g c =
@@ -59,7 +59,7 @@ loop-step-preserved g c =
     let after = c.take_step.new.machine in
     let taken = c.take_step.ensures in
     let passes = c.pass_quiet.ensures.passed in
-    let well = c.well_formed-2.ensures.listing in
+    let well = c.well_formed-2.ensures in
     record {
       program = passes.program_is ∙ walked.program_is;
       along =
@@ -81,4 +81,4 @@ returns-clause-ok g c = c.take_records.ensures.records ∙ all_records g (goal.a
 pub returns-clause-count : goal.returns-clause-count
 returns-clause-count g c =
     ap length (c.take_records.ensures.records ∙ all_records g (goal.at.returns-clause-count g c).In_default)
-    ∙ length-records_of c.args.program.now.listing c.args.faults.now c.args.coins.now c.well_formed-2.ensures.listing
+    ∙ length-records_of c.args.program.now.listing c.args.faults.now c.args.coins.now c.well_formed-2.ensures

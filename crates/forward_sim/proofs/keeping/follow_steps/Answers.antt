@@ -1,8 +1,8 @@
 -- Each step, and then the faults behind it, lead from what is left before them to what is left behind them; what is kept of the
 -- step is kept.
 use Rattle.std.proofs.Common.{◌≡◌, [], length, drop, sym, ap, subst, ◌∙◌, arith}
-use Rattle.programs.specs.Kept.{KeptProgram}
-use Rattle.programs.specs.Turns.{faults_before}
+use Rattle.circuit_walk.specs.Programs.{KeptProgram}
+use Rattle.circuit_walk.specs.Walks.{faults_before}
 use Rattle.step_model.specs.Frames.{zero_coins}
 use Rattle.step_model.specs.Runs.{next, records_of}
 use Rattle.forward_sim.specs.References.{walking_qubits, walking_run}
@@ -30,8 +30,8 @@ loop-step-init g c =
     let kept = c.args.kept.now.replaced in
     record {
       program = c.start-steps.ensures.program;
-      along = along_start program [] [] _ (walking_qubits walk) walk.room m c.well_formed-2.ensures.listing c.start-steps.ensures.place c.requires.qubits c.requires.room c.requires.starts;
-      kept = λ whole. subst (λ k. KeepsRest program k m kept) (sym c.start-steps.ensures.place) (keeps_at_start program m kept c.well_formed-2.ensures.listing c.requires.starts c.requires.empty);
+      along = along_start program [] [] _ (walking_qubits walk) walk.room m c.well_formed-2.ensures c.start-steps.ensures.place c.requires.qubits c.requires.room c.requires.starts;
+      kept = λ whole. subst (λ k. KeepsRest program k m kept) (sym c.start-steps.ensures.place) (keeps_at_start program m kept c.well_formed-2.ensures c.requires.starts c.requires.empty);
       none = λ f from to. absurd (omega arith);
     }
 
@@ -39,7 +39,7 @@ pub keep_step-requires : goal.keep_step-requires
 keep_step-requires g c =
     let here = (goal.at.keep_step-requires g c).In-Some in
     let walk = c.loop-step.walk in
-    along_can c.args.program.now c.loop-step.steps c.next_step.new.self c.in-Some.step [] [] (walking_qubits walk) walk.room (walking_run walk) c.well_formed-2.ensures.listing (over g here) c.loop-step.invariant.along
+    along_can c.args.program.now c.loop-step.steps c.next_step.new.self c.in-Some.step [] [] (walking_qubits walk) walk.room (walking_run walk) c.well_formed-2.ensures (over g here) c.loop-step.invariant.along
 
 pub pass_quiet-requires : goal.pass_quiet-requires
 pass_quiet-requires g c =
@@ -63,7 +63,7 @@ loop-step-preserved g c =
     let old = c.loop-step.walk in
     let new = c.keep_step.new.walk in
     let taken = c.in_ok-keep_step.ensures.walked in
-    let well_formed = c.well_formed-2.ensures.listing in
+    let well_formed = c.well_formed-2.ensures in
     let step = listed_of whole_program c.in-Some.step in
     let passes = c.pass_quiet.ensures.passed in
     let on : GoesAlong program [] [] c.next_step.new.self.place (walking_qubits new) new.room (walking_run new) =
@@ -95,7 +95,7 @@ pub returns-clause-count : goal.returns-clause-count
 returns-clause-count g c =
     let program = c.args.program.now.listing in
     ap length (c.take_records.ensures ∙ all_records g (goal.at.returns-clause-count g c).In_default)
-    ∙ length-records_of program [] (zero_coins program) c.well_formed-2.ensures.listing
+    ∙ length-records_of program [] (zero_coins program) c.well_formed-2.ensures
 
 pub returns-clause-kept : goal.returns-clause-kept
 returns-clause-kept g c whole =

@@ -1,4 +1,6 @@
 use Rattle.std.proofs.Common.{◌≡◌, false, length}
+use Rattle.circuit_walk.specs.Letters.{AreSmall, letters_in}
+use Rattle.step_model.specs.WellFormed.{TermsFit}
 use Rattle.forward_sim.proofs.TermWords.{IsProductSoFar}
 use Rattle.forward_sim.proofs.products.set_product.Given as goal
 
@@ -6,7 +8,12 @@ use Rattle.forward_sim.proofs.products.set_product.Given as goal
 abbrev pub invariant-loop-term : goal.invariant-loop-term
 invariant-loop-term g l =
     record {
+      small : AreSmall l.left;
+      fit : TermsFit (length l.fn.word.letters) (letters_in l.left);
       size : length l.word.letters ≡ length l.fn.word.letters;
       plus : l.word.negative ≡ false;
-      product : IsProductSoFar (length l.fn.word.letters) l.terms l.term-index l.word.letters;
+      product : IsProductSoFar (length l.fn.word.letters) (letters_in l.left) (letters_in l.letters) l.word.letters;
     }
+
+abbrev pub decreases-loop-term : goal.decreases-loop-term
+decreases-loop-term g l = length (letters_in l.left)

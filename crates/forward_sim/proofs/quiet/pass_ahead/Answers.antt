@@ -1,6 +1,6 @@
 use Rattle.std.proofs.Common.{subst, sym, arith}
-use Rattle.programs.specs.Kept.{KeptProgram}
-use Rattle.programs.specs.Turns.{faults_before}
+use Rattle.circuit_walk.specs.Programs.{KeptProgram}
+use Rattle.circuit_walk.specs.Walks.{faults_before}
 use Rattle.forward_sim.specs.private.Quiet.{NoneAhead, NoneHappens}
 use Rattle.forward_sim.proofs.QuietFaults.{none-later}
 use Rattle.forward_sim.proofs.quiet.pass_ahead.Given.{Over}

@@ -3,23 +3,19 @@ use Rattle.std.proofs.Common.{◌+◌, ◌++◌, length, refl, sym, ap, subst, �
 use Rattle.forward_sim.specs.private.BoundRuns.{bounds_in, bounds_of_run}
 use Rattle.forward_sim.specs.Drawn.{bounds_of}
 use Rattle.forward_sim.proofs.BoundLemmas.{bounds_all}
-use Rattle.forward_sim.proofs.BoundWalks.{BoundsBehind, entry_fits, none_behind, one_more_behind, walk_fits}
+use Rattle.forward_sim.proofs.BoundWalks.{BoundsBehind, chance_fits, none_behind, one_more_behind}
 use Rattle.forward_sim.proofs.RunLemmas.{run_more, last_below}
-use Rattle.programs.proofs.FaultOrders.{none_left_of}
+use Rattle.circuit_walk.proofs.FaultOrders.{none_left_of}
 use Rattle.forward_sim.proofs.runs.bound_runs.Goals as goal
 
 pub loop-number-init : goal.loop-number-init
 loop-number-init g c =
-    let none = none_behind c.args.program.now c.start-walk.result c.well_formed-2.ensures.listing c.start-walk.ensures.program c.start-walk.ensures.place in
+    let none = none_behind c.args.program.now c.start-walk.result c.well_formed-2.ensures c.start-walk.ensures.program c.start-walk.ensures.place in
     subst (BoundsBehind c.args.program.now c.start-walk.result 0) (sym (ap (λ rs. bounds_in rs ++ bounds_of_run (record { bound = 1; count = 0 })) c.new-runs.ensures.items)) none
 
-pub next_fault-requires : goal.next_fault-requires
-next_fault-requires g c =
-    walk_fits c.args.program.now c.loop-number.walk c.loop-number.number (bounds_in c.loop-number.runs.items ++ bounds_of_run c.loop-number.last) c.loop-number.invariant c.well_formed-2.ensures.listing
-
-pub entry_bound-requires : goal.entry_bound-requires
-entry_bound-requires g c =
-    entry_fits c.args.program.now c.loop-number.walk c.loop-number.number (bounds_in c.loop-number.runs.items ++ bounds_of_run c.loop-number.last) c.loop-number.invariant c.next_fault.new.walk
+pub chance_bound-requires : goal.chance_bound-requires
+chance_bound-requires g c =
+    chance_fits c.args.program.now c.loop-number.walk c.loop-number.number (bounds_in c.loop-number.runs.items ++ bounds_of_run c.loop-number.last) c.loop-number.invariant c.next_fault.new.walk
     c.in-Some.fault c.in-Some.ensures.found c.in-Some.ensures.next
 
 pub count_fault-requires : goal.count_fault-requires
@@ -31,7 +27,7 @@ pub loop-number-preserved : goal.loop-number-preserved
 loop-number-preserved g c =
     let more =
     one_more_behind c.args.program.now c.loop-number.walk c.loop-number.number (bounds_in c.loop-number.runs.items ++ bounds_of_run c.loop-number.last) c.loop-number.invariant c.next_fault.new.walk
-    c.in-Some.fault c.in-Some.ensures.found c.in-Some.ensures.next c.entry_bound.result c.in-Some.ensures.program c.entry_bound.ensures in
+    c.in-Some.fault c.in-Some.ensures.found c.in-Some.ensures.next c.chance_bound.result c.in-Some.ensures.program c.chance_bound.ensures in
     subst (BoundsBehind c.args.program.now c.next_fault.new.walk (c.loop-number.number + 1)) (sym c.in_ok-count_fault.ensures) more
 
 -- as many are left as are still to come

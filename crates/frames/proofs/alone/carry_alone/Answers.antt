@@ -1,8 +1,8 @@
 -- Each step, and then the quiet faults behind it, carry the frames from what is left before them to what is left behind them.
 use Rattle.std.proofs.Common.{◌≡◌, ℕ, [], ◌∷◌, drop, refl, sym, ap, subst, ◌∙◌, arith}
 use Rattle.bit_rows.specs.Lanes.{lane}
-use Rattle.programs.specs.Kept.{KeptProgram}
-use Rattle.programs.specs.Turns.{faults_before}
+use Rattle.circuit_walk.specs.Programs.{KeptProgram}
+use Rattle.circuit_walk.specs.Walks.{faults_before}
 use Rattle.frames.specs.private.Quiet.{NoneHappens}
 use Rattle.forward_sim.proofs.WalkedSteps.{GoesOver, goes_over, listed_of, nothing_left}
 use Rattle.run_laws.specs.Shifts.{carried_over}
@@ -50,7 +50,7 @@ carry_over-still-requires-clause-room g c =
       arith,
       c.requires.room,
       c.loop-step.invariant.room,
-      carried-room program.listing (lane 0 c.args.faults.now) (listed_of program c.in-Some.step) (drop c.next_step.new.self.place program.listing.steps) c.loop-step.frames c.well_formed-2.ensures.listing (before g here 0),
+      carried-room program.listing (lane 0 c.args.faults.now) (listed_of program c.in-Some.step) (drop c.next_step.new.self.place program.listing.steps) c.loop-step.frames c.well_formed-2.ensures (before g here 0),
     )
 
 pub pass_quiet-requires : goal.pass_quiet-requires

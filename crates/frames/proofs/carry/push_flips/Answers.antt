@@ -20,7 +20,7 @@ size : (g : Over) (c : In_ok-flip g) → length c.carry.new.self.word ≡ c.args
 size g c =
     let program = c.args.program.now.listing in
     let step = listed_of c.args.program.now c.in-Some.step in
-    let fits = fits_at program c.loop-step.walk.place step c.well_formed-2.ensures.listing (over g c).here in
+    let fits = fits_at program c.loop-step.walk.place step c.well_formed-2.ensures (over g c).here in
     ap (λ (f : Frame). length f.word) c.in_ok-flip.ensures.carried ∙ length-carried program step c.loop-step.frame fits c.loop-step.invariant.size
 
 -- the flips so far, of the step and of those behind it

@@ -17,7 +17,7 @@ over g c =
 counted : (g : Over) (c : After-records_after-made g) → c.records_after-made.result ≡ c.loop-step.made + length (step_records (listed_of c.args.program.now c.in-Some.step))
 counted g c =
     c.records_after-made.ensures
-    ∙ made_after-step c.args.program.now c.well_formed-2.ensures.listing c.loop-step.walk.place c.loop-step.made c.loop-step.invariant.made c.in-Some.step (over g c).here
+    ∙ made_after-step c.args.program.now c.well_formed-2.ensures c.loop-step.walk.place c.loop-step.made c.loop-step.invariant.made c.in-Some.step (over g c).here
 
 made : (g : Over) (c : After-records_after-made g) → c.records_after-made.result ≡ length (records_made (take c.next_step.new.self.place c.args.program.now.listing.steps))
 made g c =
@@ -34,7 +34,7 @@ returns-then-before-collapse-clause-passed g c =
     let behind = (goal.at.returns-then-before-collapse-clause-passed g c).After-records_after-made in
     let past = over g behind in
     let step = listed_of c.args.program.now c.in-Some.step in
-    let here : is_collapse step ≡ true = sym (c.is_collapse.ensures program.listing.qubits program.products) ∙ c.if-is_collapse.true in
+    let here : is_collapse step ≡ true = sym (c.is_collapse.ensures program.listing.qubits) ∙ c.if-is_collapse.true in
     let found = ahead-found program.listing c.args.collapse c.loop-step.made step _ here (rw (past.left, c.if-before-collapse.true) at c.loop-step.invariant.ahead) in
     record {
       named = past.named;
@@ -51,7 +51,7 @@ loop-step-preserved-then-is_collapse g c =
     let behind = (goal.at.loop-step-preserved-then-is_collapse g c).After-records_after-made in
     let past = over g behind in
     let step = listed_of c.args.program.now c.in-Some.step in
-    let here : is_collapse step ≡ true = sym (c.is_collapse.ensures program.listing.qubits program.products) ∙ c.if-is_collapse.true in
+    let here : is_collapse step ≡ true = sym (c.is_collapse.ensures program.listing.qubits) ∙ c.if-is_collapse.true in
     let earlier : c.loop-step.before < c.args.collapse = omega (arith, c.loop-step.invariant.earlier, c.if-before-collapse.false) in
     record {
       program = past.program_is;
@@ -69,7 +69,7 @@ loop-step-preserved g c =
     let behind = (goal.at.loop-step-preserved g c).After-records_after-made in
     let past = over g behind in
     let step = listed_of c.args.program.now c.in-Some.step in
-    let other : is_collapse step ≡ false = sym (c.is_collapse.ensures program.listing.qubits program.products) ∙ c.if-is_collapse.false in
+    let other : is_collapse step ≡ false = sym (c.is_collapse.ensures program.listing.qubits) ∙ c.if-is_collapse.false in
     record {
       program = past.program_is;
       earlier = c.loop-step.invariant.earlier;
@@ -81,4 +81,4 @@ pub returns-clause-passed : goal.returns-clause-passed
 returns-clause-passed g c =
     let program = c.args.program.now in
     let r = rests program c.loop-step.walk c.next_step.new.self c.loop-step.invariant.program c.in_default.ensures.step c.in_default.ensures.program c.in_default.ensures.place in
-    rw r.place (ahead-none program c.args.collapse c.loop-step.before c.loop-step.made _ c.well_formed-2.ensures.listing r.left c.loop-step.invariant.ahead)
+    rw r.place (ahead-none program c.args.collapse c.loop-step.before c.loop-step.made _ c.well_formed-2.ensures r.left c.loop-step.invariant.ahead)

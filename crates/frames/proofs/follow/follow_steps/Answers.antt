@@ -5,15 +5,14 @@ use Rattle.forward_sim.specs.References.{GoneOver, ReferenceRun, StandBefore}
 use Rattle.forward_sim.proofs.RunRecords.{length-records_of}
 use Rattle.forward_sim.proofs.WalkedSteps.{GoesOver, goes_over, listed_of, nothing_left}
 use Rattle.bit_rows.specs.Lanes.{lane, lane_bit}
-use Rattle.programs.specs.Kept.{KeptProgram}
-use Rattle.programs.specs.Listed.{listed}
-use Rattle.programs.specs.Turns.{faults_before}
+use Rattle.circuit_walk.specs.Programs.{KeptProgram}
+use Rattle.circuit_walk.specs.Steps.{listed}
+use Rattle.circuit_walk.specs.Walks.{faults_before}
 use Rattle.step_model.specs.Frames.{zero_coins}
 use Rattle.step_model.specs.Listing.{ListedStep, is_collapse}
 use Rattle.step_model.specs.Runs.{RunState}
 use Rattle.step_model.specs.WellFormed.{step_fits}
 use Rattle.step_model.proofs.StepNumbers.{fits_at}
-use Rattle.step_model.specs.declared.step.Term.{Term}
 use Rattle.frames.specs.Batches.{start_frame}
 use Rattle.frames.specs.private.Followed.{TurnsAt, followed}
 use Rattle.frames.specs.private.Quiet.{NoneAhead, NoneHappens}
@@ -58,7 +57,7 @@ loop-step-init g c =
       records = refl;
       beside =
           subst (λ k. Beside program reference c.args.faults.now c.args.coins.now (drop k program.steps) 0 f) (sym c.start-walk.ensures.place)
-          (beside-start program reference c.args.faults.now c.args.coins.now f c.well_formed-2.ensures.listing c.requires.reference c.requires.stands
+          (beside-start program reference c.args.faults.now c.args.coins.now f c.well_formed-2.ensures c.requires.reference c.requires.stands
           (λ j. c.requires.start j ∙ ap start_frame c.requires.qubits));
       still = λ is. still-start f c.requires.start;
       none = λ f from to. absurd (omega arith);
@@ -79,8 +78,8 @@ gone : (g : Over) (c : In-Some g) (new : ReferenceRun)
     → GoneOver c.args.program.now.listing (listed_of c.args.program.now c.in-Some.step) (drop c.next_step.new.self.place c.args.program.now.listing.steps) (before g c).m c.loop-step.collapse new.words
 gone g c new goes = goes (drop c.next_step.new.self.place c.args.program.now.listing.steps) (before g c).m c.loop-step.collapse (before g c).stand
 
-collapses : (g : Over) (c : In-Some g) (is : Bool) → ((n : ℕ) (products : List (List Term)) → is ≡ is_collapse (listed n products c.in-Some.step)) → (value : Bool) → is ≡ value → is_collapse (listed_of c.args.program.now c.in-Some.step) ≡ value
-collapses g c is says value is_value = sym (says c.args.program.now.listing.qubits c.args.program.now.products) ∙ is_value
+collapses : (g : Over) (c : In-Some g) (is : Bool) → ((n : ℕ) → is ≡ is_collapse (listed n c.in-Some.step)) → (value : Bool) → is ≡ value → is_collapse (listed_of c.args.program.now c.in-Some.step) ≡ value
+collapses g c is says value is_value = sym (says c.args.program.now.listing.qubits) ∙ is_value
 
 pub replaced-replaced-requires : goal.replaced-replaced-requires
 replaced-replaced-requires g c =
@@ -88,12 +87,12 @@ replaced-replaced-requires g c =
     (gone g here c.go_over.new.self c.go_over.ensures.over).said (collapses g here c.is_collapse.result c.is_collapse.ensures true c.if-is_collapse.true)
 
 fits : (g : Over) (c : In-Some g) → step_fits c.args.program.now.listing (listed_of c.args.program.now c.in-Some.step) ≡ true
-fits g c = fits_at c.args.program.now.listing c.loop-step.walk.place (listed_of c.args.program.now c.in-Some.step) c.well_formed-2.ensures.listing (over g c).here
+fits g c = fits_at c.args.program.now.listing c.loop-step.walk.place (listed_of c.args.program.now c.in-Some.step) c.well_formed-2.ensures (over g c).here
 
 count : (g : Over) (c : In-Some g) → length c.loop-step.reference.records ≡ c.args.program.now.listing.records
 count g c =
     ap length c.loop-step.invariant.reference.records
-    ∙ length-records_of c.args.program.now.listing [] (zero_coins c.args.program.now.listing) c.well_formed-2.ensures.listing
+    ∙ length-records_of c.args.program.now.listing [] (zero_coins c.args.program.now.listing) c.well_formed-2.ensures
 
 pub take_step-requires-clause-room : goal.take_step-requires-clause-room
 take_step-requires-clause-room g c =
@@ -158,7 +157,7 @@ loop-step-preserved g c =
       reference = c.go_over.ensures.reference c.loop-step.invariant.reference;
       records = c.go_over.ensures.records ∙ c.loop-step.invariant.records;
       beside =
-          beside-quiet c.args.program.now after c.args.faults.now c.args.coins.now c.loop-step.collapse frames c.next_step.new.self c.pass_quiet.new.walk c.well_formed-2.ensures.listing walked.program_is passes
+          beside-quiet c.args.program.now after c.args.faults.now c.args.coins.now c.loop-step.collapse frames c.next_step.new.self c.pass_quiet.new.walk c.well_formed-2.ensures walked.program_is passes
           (beside-other program c.loop-step.reference after c.args.faults.now c.args.coins.now (listed_of c.args.program.now c.in-Some.step) (drop c.next_step.new.self.place program.steps) c.loop-step.collapse 0 c.loop-step.frames frames
           (fits g here) (collapses g here c.is_collapse.result c.is_collapse.ensures false c.if-is_collapse.false) (before g here) c.go_over.ensures.records (gone g here after c.go_over.ensures.over) goes);
       still = c.carry_over-still.ensures.still;

@@ -1,6 +1,6 @@
 use Rattle.std.proofs.Common.{subst, sym, arith}
-use Rattle.programs.specs.Kept.{KeptProgram}
-use Rattle.programs.specs.Turns.{faults_before}
+use Rattle.circuit_walk.specs.Programs.{KeptProgram}
+use Rattle.circuit_walk.specs.Walks.{faults_before}
 use Rattle.frames.specs.private.Quiet.{NoneAhead, NoneHappens}
 use Rattle.frames.proofs.QuietFaults.{none-later}
 use Rattle.frames.proofs.quiet.pass_ahead.Given.{Over}

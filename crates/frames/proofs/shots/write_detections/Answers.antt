@@ -2,7 +2,7 @@ use Rattle.frames.proofs.shots.write_detections.Goals as goal
 
 pub write_followed-requires : goal.write_followed-requires
 write_followed-requires g c =
-    record { follows = c.in_ok-follower.ensures.follows; shows = c.in_ok-follower.ensures.shows }
+    record { follows = c.in_ok-follower.ensures.follows; kind = c.in_ok-follower.ensures.kind }
 
 pub returns-clause-written : goal.returns-clause-written
 returns-clause-written g c = c.write_followed.ensures.written

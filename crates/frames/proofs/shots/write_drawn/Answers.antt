@@ -1,5 +1,5 @@
 -- The runs are the program's, so the lines that go out are its.
-use Rattle.std.proofs.Common.{ap₂}
+use Rattle.std.proofs.Common.{ap₂, ◌∙◌}
 use Rattle.frames.specs.Sampled.{shots_text}
 use Rattle.frames.specs.Shown.{shown_line}
 use Rattle.frames.proofs.Beginnings.{no_memory, written_by}
@@ -19,5 +19,5 @@ pub returns : goal.returns
 returns g c =
     written_by g.W.Sink.taken g.W.Sink.failures (shots_text (shown_line c.args.shown) c.args.shots c.args.seed c.args.program.now.listing) c.args.sink.now
     c.write_batches.new.sink c.write_batches.result _
-    (ap₂ (λ shown program. shots_text (shown_line shown) c.args.shots c.args.seed program) c.new-runs.ensures.shown c.new-runs.ensures.program)
+    (ap₂ (λ shown program. shots_text (shown_line shown) c.args.shots c.args.seed program) (c.new-runs.ensures.shown ∙ c.requires.kind) c.new-runs.ensures.program)
     c.write_batches.ensures.all c.write_batches.ensures.fault c.write_batches.ensures.beginning c.write_batches.ensures.count

@@ -12,8 +12,8 @@ coins_that_dont_count-passed-requires g c = c.requires.follows
 pub write_drawn-requires-clause-follows : goal.write_drawn-requires-clause-follows
 write_drawn-requires-clause-follows g c = c.requires.follows
 
-pub write_drawn-requires-clause-shows : goal.write_drawn-requires-clause-shows
-write_drawn-requires-clause-shows g c = c.requires.shows
+pub write_drawn-requires-clause-kind : goal.write_drawn-requires-clause-kind
+write_drawn-requires-clause-kind g c = c.requires.kind
 
 pub write_drawn-requires-clause-bounds : goal.write_drawn-requires-clause-bounds
 write_drawn-requires-clause-bounds g c = c.in_ok-drawn.ensures.bounds
@@ -23,7 +23,8 @@ write_drawn-requires-clause-coins g c = ap length c.in_ok-drawn.ensures.coins âˆ
 
 pub write_drawn-requires-clause-passed : goal.write_drawn-requires-clause-passed
 write_drawn-requires-clause-passed g c =
-    subst (DontShow c.args.shown c.args.program.now.listing) (sym c.in_ok-drawn.ensures.passed) (c.coins_that_dont_count-passed.ensures.coins c.args.shown c.requires.shows)
+    subst (DontShow c.args.shown c.args.program.now.listing) (sym c.in_ok-drawn.ensures.passed)
+    (subst (Î» kind. DontShow kind c.args.program.now.listing c.coins_that_dont_count-passed.result) c.requires.kind c.coins_that_dont_count-passed.ensures.coins)
 
 pub returns-in_err-drawn : goal.returns-in_err-drawn
 returns-in_err-drawn g c =

@@ -8,4 +8,4 @@ take_step-requires-clause-turns g c = no_turns c.args.program.now.listing.qubits
 
 pub returns-then-is_quiet-clause-goes : goal.returns-then-is_quiet-clause-goes
 returns-then-is_quiet-clause-goes g c =
-    goes_nowhere c.args.program.now.listing c.args.program.now.products c.args.faults.now 0 c.args.still c.args.step c.args.frames.now (c.is_quiet.ensures c.if-is_quiet.true) c.requires.still
+    goes_nowhere c.args.program.now.listing c.args.faults.now 0 c.args.still c.args.step c.args.frames.now (c.is_quiet.ensures c.if-is_quiet.true) c.requires.still

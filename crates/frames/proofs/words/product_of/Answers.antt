@@ -1,58 +1,67 @@
-use Rattle.std.proofs.Common.{◌≡◌, ◌<◌, ◌-◌, ◌+◌, ◌∷◌, length, drop, get_or, ap, sym, ◌∙◌, arith}
-use Rattle.std.proofs.lemmas.List.{drop_all, drop_more}
-use Rattle.std.proofs.lemmas.List.Elements.{All-get_or}
+-- Each letter goes from the word that is left into the word so far.
+use Rattle.std.proofs.Common.{◌<◌, length, ap, sym, subst, ◌∙◌}
+use Rattle.std.proofs.lemmas.List.{length-replicate}
+use Rattle.circuit_walk.specs.Letters.{letters_in}
 use Rattle.pauli_word.specs.declared.letter.Letter.TheVariants.{I}
 use Rattle.pauli_word.specs.Words.{Signed, letters_product, lone_letter}
-use Rattle.step_model.specs.declared.step.Term.{Term}
+use Rattle.pauli_word.proofs.LoneLetters.{length-lone_letter}
+use Rattle.pauli_word.proofs.WordLaws.{length-letters_product}
 use Rattle.step_model.specs.Listing.{word_of_terms}
-use Rattle.step_model.proofs.StepNumbers.{length-word_of_terms}
+use Rattle.forward_sim.proofs.TermWords.{IsProductSoFar, fewer, first_fits, product_all, product_none, rest_fits}
+use Rattle.frames.proofs.TermWords.{product_on}
 use Rattle.frames.proofs.words.product_of.Goals as goal
+
+pub loop-term-init : goal.loop-term-init
+loop-term-init g c =
+    let n = c.args.qubits in
+    let terms = letters_in c.args.letters in
+    record {
+      small = c.requires.small;
+      fit = c.requires.inside;
+      size = ap (λ (w : Signed). length w.letters) c.in_ok-word.ensures ∙ length-replicate n I;
+      product = ap (λ (w : Signed). letters_product w.letters (word_of_terms n terms)) c.in_ok-word.ensures ∙ product_none n terms;
+    }
 
 pub multiply_at-requires : goal.multiply_at-requires
 multiply_at-requires g c =
-    let terms = c.args.terms.now in
-    let i = c.loop-left.left - 1 in
-    let d : Term = record { qubit = 0; letter = I } in
-    let within : i < length terms = omega (arith, c.loop-left.invariant.within) in
-    let fits : (get_or terms i d).qubit < c.args.qubits = All-get_or (λ term. term.qubit < c.args.qubits) terms i d within c.requires in
-    omega (arith, fits, ap length c.loop-left.invariant.product, length-word_of_terms c.args.qubits (drop c.loop-left.left terms))
+    subst (λ n. c.in-Some.term.qubit < n) (sym c.loop-term.invariant.size)
+    (first_fits c.args.qubits (letters_in c.loop-term.left) c.in-Some.term (letters_in c.in-Some.rest) c.in-Some.ensures.letters c.loop-term.invariant.fit)
 
-pub loop-left-preserved : goal.loop-left-preserved
-loop-left-preserved g c =
+pub loop-term-smaller : goal.loop-term-smaller
+loop-term-smaller g c =
+    fewer c.args.qubits (letters_in c.loop-term.left) c.in-Some.term (letters_in c.in-Some.rest) c.in-Some.ensures.letters
+
+pub loop-term-preserved : goal.loop-term-preserved
+loop-term-preserved g c =
     let n = c.args.qubits in
-    let terms = c.args.terms.now in
-    let i = c.loop-left.left - 1 in
-    let d : Term = record { qubit = 0; letter = I } in
-    let within : i < length terms = omega (arith, c.loop-left.invariant.within) in
-    let term = get_or terms i d in
-    let here : i + 1 ≡ c.loop-left.left = omega arith in
-    let read : drop i terms ≡ term ∷ drop c.loop-left.left terms = drop_more terms i d within ∙ ap (λ k. term ∷ drop k terms) here in
-    let size : length c.loop-left.word.letters ≡ n =
-    ap length c.loop-left.invariant.product ∙ length-word_of_terms n (drop c.loop-left.left terms) in
+    let terms = letters_in c.args.letters in
+    let term = c.in-Some.term in
+    let left = letters_in c.loop-term.left in
+    let rest = letters_in c.in-Some.rest in
+    let word = c.loop-term.word.letters in
+    let after = c.multiply_at.new.word in
+    let size = c.loop-term.invariant.size in
+    let letters = ap (λ (w : Signed). w.letters) c.multiply_at.ensures ∙ ap (λ m. letters_product (lone_letter m term.qubit term.letter) word) size in
     record {
-      within = omega (arith, c.loop-left.invariant.within);
+      small = c.in-Some.ensures.small;
+      fit = rest_fits n left term rest c.in-Some.ensures.letters c.loop-term.invariant.fit;
+      size =
+          ap length letters
+          ∙ (length-letters_product (lone_letter n term.qubit term.letter) word (length-lone_letter n term.qubit term.letter ∙ sym size)
+          ∙ length-lone_letter n term.qubit term.letter);
       product =
-          ap (λ (w : Signed). w.letters) c.multiply_at.ensures
-          ∙ (ap (λ m. letters_product (lone_letter m term.qubit term.letter) c.loop-left.word.letters) size
-          ∙ (ap (letters_product (lone_letter n term.qubit term.letter)) c.loop-left.invariant.product
-          ∙ ap (word_of_terms n) (sym read)));
-    }
-
-pub returns-clause-size : goal.returns-clause-size
-returns-clause-size g c =
-    ap length c.loop-left.invariant.product ∙ length-word_of_terms c.args.qubits (drop c.loop-left.left c.args.terms.now)
-
-pub loop-left-init : goal.loop-left-init
-loop-left-init g c =
-    let terms = c.args.terms.now in
-    record {
-      within = omega arith;
-      product =
-          ap (λ (w : Signed). w.letters) c.in_ok-word.ensures
-          ∙ ap (word_of_terms c.args.qubits) (sym (drop_all (length terms) terms (omega arith)));
+          subst (IsProductSoFar n rest terms) (sym letters)
+          (product_on n term rest terms word
+          (subst (λ ts. IsProductSoFar n ts terms word) c.in-Some.ensures.letters c.loop-term.invariant.product));
     }
 
 pub returns-clause-product : goal.returns-clause-product
 returns-clause-product g c =
-    let none : c.loop-left.left ≡ 0 = omega arith in
-    c.loop-left.invariant.product ∙ ap (λ k. word_of_terms c.args.qubits (drop k c.args.terms.now)) none
+    let n = c.args.qubits in
+    let terms = letters_in c.args.letters in
+    let word = c.loop-term.word.letters in
+    product_all n terms word c.loop-term.invariant.size
+    (subst (λ ts. IsProductSoFar n ts terms word) c.in_default.ensures.letters c.loop-term.invariant.product)
+
+pub returns-clause-size : goal.returns-clause-size
+returns-clause-size g c = c.loop-term.invariant.size

@@ -1,13 +1,18 @@
-use Rattle.std.proofs.Common.{◌≡◌, ◌≤◌, length, drop}
-use Rattle.step_model.specs.Listing.{word_of_terms}
+use Rattle.std.proofs.Common.{◌≡◌, length}
+use Rattle.circuit_walk.specs.Letters.{AreSmall, letters_in}
+use Rattle.step_model.specs.WellFormed.{TermsFit}
+use Rattle.forward_sim.proofs.TermWords.{IsProductSoFar}
 use Rattle.frames.proofs.words.product_of.Given as goal
 
--- the product of the letters from a place on
-abbrev pub invariant-loop-left : goal.invariant-loop-left
-invariant-loop-left g l = record {
-  within : l.left ≤ length l.terms;
-  product : l.word.letters ≡ word_of_terms l.qubits (drop l.left l.terms);
-}
+-- the word so far, times that of the letters that are left, is the word of all
+abbrev pub invariant-loop-term : goal.invariant-loop-term
+invariant-loop-term g l =
+    record {
+      small : AreSmall l.left;
+      fit : TermsFit l.qubits (letters_in l.left);
+      size : length l.word.letters ≡ l.qubits;
+      product : IsProductSoFar l.qubits (letters_in l.left) (letters_in l.letters) l.word.letters;
+    }
 
-abbrev pub decreases-loop-left : goal.decreases-loop-left
-decreases-loop-left g l = l.left
+abbrev pub decreases-loop-term : goal.decreases-loop-term
+decreases-loop-term g l = length (letters_in l.left)

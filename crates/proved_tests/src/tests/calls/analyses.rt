@@ -2,8 +2,8 @@
 use crate::tests::findings::{by_dense, by_sparse};
 use crate::tests::words::sparse_words;
 use backward::{Analysed, first_random};
+use circuit_walk::Program;
 use error_models::Model;
-use programs::Program;
 use run_laws::constancy;
 use std::alloc::Global;
 use std::test::Fail;

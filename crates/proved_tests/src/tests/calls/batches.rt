@@ -1,8 +1,8 @@
 //! A batch of runs in which two qubits are measured alike: each run's outcomes are its coin.
 ghost use Rattle.std.specs.Prelude.{◌≡◌, ◌<◌, length};
 
+use circuit_walk::Program;
 use frames::Batch;
-use programs::Program;
 use std::alloc::Global;
 use std::test::Fail;
 use step_model::Fault;

@@ -4,15 +4,15 @@ ghost use Rattle.tableau.specs.Rows.{row_count};
 
 use backward::{DenseWords, QubitSets, Tracker};
 use bit_rows::BitRow;
+use circuit_walk::Program;
 use forward_sim::{detections, read_coins, read_numbers, run};
 use gate_table::Gate;
 use pauli_word::Letter;
-use programs::Program;
 use std::alloc::{AllocError, Global};
 use step_model::{Fault, Term};
 use stim_parser::{Probability, parse};
 use tableau::Tableau;
-use unroll::{read_untargeted, unroll};
+use unroll::{read_program, unroll};
 
 /// Whether a row of which one bit is flipped and another row are exchanged.
 fn flips_and_exchanges(alloc: Global) -> Result<bool, AllocError> {
@@ -148,7 +148,7 @@ fn changes_both(alloc: Global, program: &Program<'_, Global>) -> Result<bool, Fa
 }
 
 fn reads_and_changes(alloc: Global) -> Result<bool, Fault> {
-    let program = unroll(alloc, parse(alloc, CIRCUIT)?)?;
+    let program = unroll(parse(alloc, CIRCUIT)?)?;
     changes_both(alloc, &program)
 }
 
@@ -159,13 +159,20 @@ fn a_run_and_its_detections(rt: HostRuntime) {
 
 const TARGETS: &[u8] = b"M 0\nDETECTOR(3) rec[-1]\nOBSERVABLE_INCLUDE(1) rec[-1]\n";
 
-/// Whether a circuit is read without its detector and its two observables, which are counted.
-fn is_read_without_targets(alloc: Global) -> Result<bool, Fault> {
-    let read = read_untargeted(alloc, TARGETS)?;
-    Ok(read.targets == 3 && read.program.target_count() == 0 && read.program.record_count() == 1)
+/// Whether a program counts its detector and its two observables.
+fn counts_targets(program: &Program<'_, Global>) -> bool {
+    (program.detector_count() == 1)
+        & (program.observable_count() == 2)
+        & (program.target_count() == 3)
+        & (program.record_count() == 1)
+}
+
+fn reads_and_counts(alloc: Global) -> Result<bool, Fault> {
+    let program = read_program(alloc, TARGETS)?;
+    Ok(counts_targets(&program))
 }
 
 #[test]
 fn targets_that_are_counted(rt: HostRuntime) {
-    assert!(rt; matches!(is_read_without_targets(rt.alloc()), Ok(true)));
+    assert!(rt; matches!(reads_and_counts(rt.alloc()), Ok(true)));
 }

@@ -2,9 +2,9 @@
 ghost use Rattle.std.specs.Prelude.{◌≡◌, length, IfOk};
 
 use crate::tests::tables::{are_coins, are_digits};
+use circuit_walk::Program;
 use frames::{coin_pair, flips};
 use pauli_word::{Letter, Word};
-use programs::Program;
 use run_laws::shift;
 use std::alloc::{AllocError, Global};
 use step_model::{Fault, Place};

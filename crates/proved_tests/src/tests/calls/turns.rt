@@ -1,6 +1,6 @@
 //! The walk over whole turns of a block: which place is one turn earlier, and over how many turns it goes back from there.
 use crate::tests::tables::parts_of;
-use programs::{Program, Walk};
+use circuit_walk::{Program, Walk};
 use std::alloc::Global;
 use step_model::Fault;
 use test_support::text_of;

@@ -7,7 +7,7 @@ mod rows;
 
 use crate::tests::words::{dense_words, sparse_words};
 use backward::write_in_parts;
-use programs::Program;
+use circuit_walk::Program;
 use rows::ROWS;
 use std::alloc::{AllocError, Global};
 use step_model::{Fault, MemorySink, Place};

@@ -1,7 +1,7 @@
 //! The text of an error model, written in parts to a device that fails at one of its calls.
 use crate::tests::words::sparse_words;
 use backward::write_in_parts;
-use programs::Program;
+use circuit_walk::Program;
 use std::alloc::{AllocError, Global};
 use std::io::ErrorKind;
 use std::test::Fail;

@@ -2,7 +2,7 @@
 //! and gives back what it took.
 use super::calls::{ASKED, Asked};
 use super::lent::CIRCUIT;
-use programs::Program;
+use circuit_walk::Program;
 use std::alloc::Global;
 use std::process::Abort;
 use std::test::Fail;

@@ -2,8 +2,8 @@
 ghost use Rattle.std.specs.Prelude.{◌≡◌, length, IfOk};
 
 use super::growths::Memory;
+use circuit_walk::Program;
 use pauli_word::Word;
-use programs::Program;
 use std::alloc::AllocError;
 
 /// Every kind of step, on five qubits: 11 collapses, 8 records, 10 faults, 2 detectors and 2 observables. In the run without

@@ -1,26 +1,24 @@
-use Rattle.std.proofs.Common.{◌≡◌, ◌<◌, ◌+◌, ◌∷◌, ◌++◌, ℕ, length, get_or, set, drop, ap, ap₂, subst, sym, ◌∙◌, arith, length-append, length-set}
+use Rattle.std.proofs.Common.{◌≡◌, ◌<◌, ◌+◌, ◌∷◌, ◌++◌, ℕ, length, get_or, set, drop, ap, ap₂, subst, sym, ◌∙◌, arith, length-set}
 use Rattle.std.proofs.lemmas.List.{drop_all, drop_more, get_or_read}
 use Rattle.std.proofs.lemmas.List.Elements.{All-set}
 use Rattle.step_model.specs.Targets.{targets_of}
 use Rattle.record_targets.specs.private.ListedTargets.{HasRoom, left_from, marked_rows}
 use Rattle.record_targets.specs.private.RecordSets.{toggled_in_each}
-use Rattle.record_targets.proofs.ListedLemmas.{left_from-more, mark_within, marks_counted, room_left, rows_put}
+use Rattle.record_targets.proofs.ListedLemmas.{left_from-more, mark_within, marks_counted, room_left, rows_put, target_fits, target_read}
 use Rattle.record_targets.proofs.SetLemmas.{listing_below-more}
 use Rattle.record_targets.proofs.listed_targets.put_target.Given.{Over}
 use Rattle.record_targets.proofs.listed_targets.put_target.Goals as goal
 use Rattle.record_targets.proofs.listed_targets.put_target.Goals.{After-index-mark}
 
-pub target-named-requires : goal.target-named-requires
-target-named-requires g c =
-    let program = c.args.program.now.listing in
-    omega (arith, c.requires.there, length-append program.detectors program.observables)
+pub get-named-requires : goal.get-named-requires
+get-named-requires g c = omega (arith, c.requires.there, ap length c.requires.records)
 
 pub loop-rec-init : goal.loop-rec-init
 loop-rec-init g c =
     let program = c.args.program.now.listing in
     let t = c.args.target in
     let put = c.requires.put in
-    let named = c.target-named.ensures.value in
+    let named = target_read program c.args.records.now t c.get-named.result.now c.get-named.ensures c.requires.records in
     record {
       room = subst (λ l. HasRoom (left_from program 0) l c.args.marks.now.items c.args.numbers.now.items) (left_from-more program t c.requires.there ∙ ap (λ l. l ++ left_from program (t + 1)) (sym named)) put.room;
       rows = ap₂ (toggled_in_each t) named put.rows ∙ listing_below-more program t c.requires.there;
@@ -30,7 +28,10 @@ loop-rec-init g c =
 
 pub index-mark-requires : goal.index-mark-requires
 index-mark-requires g c =
-    omega (arith, c.target-named.ensures.within c.loop-rec.rec-index 0 c.loop-rec-test.true, c.loop-rec.invariant.size)
+    let program = c.args.program.now.listing in
+    let t = c.args.target in
+    let read = target_read program c.args.records.now t c.get-named.result.now c.get-named.ensures c.requires.records in
+    omega (arith, target_fits program t c.get-named.result.now c.well_formed-2.ensures c.requires.there read c.loop-rec.rec-index 0 c.loop-rec-test.true, c.loop-rec.invariant.size)
 
 pub loop-rec-preserved : goal.loop-rec-preserved
 loop-rec-preserved g c =
@@ -41,11 +42,12 @@ loop-rec-preserved g c =
     let held = c.loop-rec.invariant in
     let marks = c.loop-rec.marks.items in
     let numbers = c.loop-rec.numbers.items in
-    let named = c.target-named.result.now in
+    let named = c.get-named.result.now in
     let index = c.loop-rec.rec-index in
     let rec = get_or named index 0 in
     let left = drop (index + 1) named ++ left_from program (t + 1) in
-    let there : rec < length marks = omega (arith, c.target-named.ensures.within index 0 c.loop-rec-test.true, held.size) in
+    let read = target_read program c.args.records.now t named c.get-named.ensures c.requires.records in
+    let there : rec < length marks = omega (arith, target_fits program t named c.well_formed-2.ensures c.requires.there read index 0 c.loop-rec-test.true, held.size) in
     let next : drop index named ≡ rec ∷ drop (index + 1) named = drop_more named index 0 c.loop-rec-test.true in
     let room : HasRoom whole (rec ∷ left) marks numbers = subst (λ l. HasRoom whole (l ++ left_from program (t + 1)) marks numbers) next held.room in
     let mark : c.index-mark.result.now ≡ get_or marks rec 0 = get_or_read marks rec c.index-mark.result.now there c.index-mark.ensures 0 in
@@ -64,10 +66,11 @@ within : (g : Over) (c : After-index-mark g) → c.index-mark.result.now < lengt
 within g c =
     let program = c.args.program.now.listing in
     let marks = c.loop-rec.marks.items in
-    let named = c.target-named.result.now in
+    let named = c.get-named.result.now in
     let index = c.loop-rec.rec-index in
     let rec = get_or named index 0 in
-    let there : rec < length marks = omega (arith, c.target-named.ensures.within index 0 c.loop-rec-test.true, c.loop-rec.invariant.size) in
+    let read = target_read program c.args.records.now c.args.target named c.get-named.ensures c.requires.records in
+    let there : rec < length marks = omega (arith, target_fits program c.args.target named c.well_formed-2.ensures c.requires.there read index 0 c.loop-rec-test.true, c.loop-rec.invariant.size) in
     let room = subst (λ l. HasRoom (left_from program 0) (l ++ left_from program (c.args.target + 1)) marks c.loop-rec.numbers.items) (drop_more named index 0 c.loop-rec-test.true) c.loop-rec.invariant.room in
     omega (
       arith,
@@ -88,7 +91,7 @@ returns g c =
     let held = c.loop-rec.invariant in
     let marks = c.loop-rec.marks.items in
     let numbers = c.loop-rec.numbers.items in
-    let none = drop_all c.loop-rec.rec-index c.target-named.result.now (omega (arith, c.loop-rec-test.false)) in
+    let none = drop_all c.loop-rec.rec-index c.get-named.result.now (omega (arith, c.loop-rec-test.false)) in
     record {
       room = subst (λ l. HasRoom (left_from program 0) (l ++ left_from program (t + 1)) marks numbers) none held.room;
       rows = sym (ap (λ l. toggled_in_each t l (marked_rows (length (targets_of program)) (left_from program 0) marks numbers)) none) ∙ held.rows;

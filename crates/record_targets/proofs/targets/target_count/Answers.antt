@@ -8,4 +8,4 @@ returns-clause-count g c =
 
 pub returns-clause-few : goal.returns-clause-few
 returns-clause-few g c =
-    omega (arith, c.target_count.ensures, c.well_formed-2.ensures.listing.few_detectors, c.well_formed-2.ensures.listing.few_observables)
+    omega (arith, c.target_count.ensures, c.well_formed-2.ensures.few_detectors, c.well_formed-2.ensures.few_observables)

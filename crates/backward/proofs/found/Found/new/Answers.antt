@@ -13,7 +13,7 @@ use Rattle.backward.proofs.found.Found.new.Goals as goal
 pub returns-clause-passed : goal.returns-clause-passed
 returns-clause-passed g c =
     let program = c.args.program.now.listing in
-    let fits = c.well_formed-2.ensures.listing in
+    let fits = c.well_formed-2.ensures in
     let none = drop_all (length program.steps) program.steps (omega arith) in
     record {
       within = omega arith;

@@ -1,6 +1,6 @@
 use Rattle.std.proofs.lemmas.Result.{on_ok_weaker}
 use Rattle.std.specs.Prelude.{reverse}
-use Rattle.programs.specs.Kept.{kept_at}
+use Rattle.step_model.specs.Chances.{chance_at}
 use Rattle.backward.proofs.HeldLines.{one_line_more}
 use Rattle.backward.proofs.NumberedLemmas.{still_fits}
 use Rattle.backward.proofs.text_store.TextStoreLineStore.give_reversed.Goals as goal
@@ -8,7 +8,7 @@ use Rattle.backward.proofs.text_store.TextStoreLineStore.give_reversed.Goals as 
 pub invariant_of-self : goal.invariant_of-self
 invariant_of-self g c =
     let store = c.args.self.now in
-    record { fits = still_fits store.program.now store.chances store.numbers.items store.text c.put_line_reversed.new.self store.fits c.put_line_reversed.ensures.detectors c.put_line_reversed.ensures.targets c.put_line_reversed.ensures.texts }
+    record { fits = still_fits store.program.now store.numbers.items store.text c.put_line_reversed.new.self store.fits c.put_line_reversed.ensures.detectors c.put_line_reversed.ensures.targets c.put_line_reversed.ensures.texts }
 
 pub returns-clause-holds : goal.returns-clause-holds
-returns-clause-holds g c = on_ok_weaker c.put_line_reversed.result (one_line_more c.args.self.now.text c.put_line_reversed.new.self c.text_number-number.result (kept_at c.args.self.now.program.now c.args.entry).text (reverse c.args.targets.now) c.put_line_reversed.ensures.detectors c.text_number-number.ensures.named) c.put_line_reversed.ensures.ok
+returns-clause-holds g c = on_ok_weaker c.put_line_reversed.result (one_line_more c.args.self.now.text c.put_line_reversed.new.self c.text_number-number.result (chance_at c.args.self.now.program.now.chances c.args.chance).text (reverse c.args.targets.now) c.put_line_reversed.ensures.detectors c.text_number-number.ensures.named) c.put_line_reversed.ensures.ok

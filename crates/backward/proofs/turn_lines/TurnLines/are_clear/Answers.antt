@@ -6,4 +6,4 @@ use Rattle.backward.proofs.turn_lines.TurnLines.are_clear.Goals as goal
 pub returns : goal.returns
 returns g c is =
     let turn = c.self.inside in
-    subst (AreClear c.args.shift.now) (ap (λ (k : KeptLines). k.lines) c.self.view_is) (clear-kept c.args.shift.now turn.program.now turn.entries.items turn.targets (c.are_clear.ensures is))
+    subst (AreClear c.args.shift.now) (ap (λ (k : KeptLines). k.lines) c.self.view_is) (clear-kept c.args.shift.now turn.program.now turn.chances.items turn.targets (c.are_clear.ensures is))

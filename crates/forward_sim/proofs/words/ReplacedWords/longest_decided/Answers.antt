@@ -11,4 +11,4 @@ returns-in-Kept-clause-within g c =
     let program = c.args.program.now.listing in
     let kept : AreWordsOf program (Kept c.in-Kept.kept.replaced) = subst (λ words. AreWordsOf program (words_of words)) c.in-Kept.is c.requires in
     let count = length-entries program program.steps (start (zero_coins program)) c.in-Kept.kept.replaced kept in
-    omega (arith, count, c.longest_decided.ensures.within, c.well_formed-2.ensures.listing.collapses_counted)
+    omega (arith, count, c.longest_decided.ensures.within, c.well_formed-2.ensures.collapses_counted)

@@ -1,14 +1,15 @@
--- A collapse's flip is whether its letter clashes with the frame's letter at its qubit.
+-- A collapse's flip is whether its letter clashes with the frame's letter at its qubit, or its product anticommutes with the frame.
 use Rattle.std.proofs.Common.{◌≡◌, ◌<◌, ◌++◌, Some, set, sym, ap, ◌∙◌}
 use Rattle.std.specs.Prelude.{if◌then◌else◌}
 use Rattle.pauli_word.specs.declared.letter.Letter.TheVariants.{I}
 use Rattle.pauli_word.specs.Letters.{letters_clash}
-use Rattle.pauli_word.specs.Words.{letter_at}
-use Rattle.programs.specs.Listed.{measured, recorded}
+use Rattle.pauli_word.specs.Words.{anticommute, letter_at}
+use Rattle.circuit_walk.specs.Letters.{letters_in}
+use Rattle.circuit_walk.specs.Steps.{measured, recorded}
 use Rattle.step_model.specs.Frames.{Frame}
-use Rattle.step_model.specs.Listing.{Collapse}
+use Rattle.step_model.specs.Listing.{Collapse, word_of_terms}
 use Rattle.frames.specs.private.Flips.{flip_of, recorded_flips}
-use Rattle.frames.proofs.FrameSteps.{frame, flip_of-letter, carried-letter}
+use Rattle.frames.proofs.FrameSteps.{frame, flip_of-letter, carried-letter, carried-word}
 use Rattle.frames.proofs.frame.Frame.carry.Given.{Over}
 use Rattle.frames.proofs.frame.Frame.carry.Goals as goal
 use Rattle.frames.proofs.frame.Frame.carry.Goals.{After-clashes-flip}
@@ -44,3 +45,15 @@ returns-in-Collapse-clause-carried g c =
     ∙ (ap (λ (f : Frame). frame (if k.reset then set f.word k.qubit I else f.word) f.records) c.in_ok-record-in-Collapse.ensures
     ∙ (ap (λ flip. frame (if k.reset then set old.word k.qubit I else old.word) (old.records ++ recorded_flips k.rec flip)) (clash g here)
     ∙ sym (carried-letter n old k.letter k.qubit k.rec k.inverted k.flip c.requires.size (inside g here) k.reset))))
+
+pub returns-in-CollapseWord-clause-carried : goal.returns-in-CollapseWord-clause-carried
+returns-in-CollapseWord-clause-carried g c =
+    let n = c.args.program.now.listing.qubits in
+    let old = c.args.self.now in
+    let k = c.in-CollapseWord in
+    let terms = letters_in k.letters in
+    let meets = c.meets-flip.ensures ∙ ap (λ m. anticommute old.word (word_of_terms m terms)) c.requires.size in
+    rw k.is
+    (c.in_ok-record-in-CollapseWord.ensures
+    ∙ (ap (λ flip. frame old.word (old.records ++ recorded_flips k.rec flip)) meets
+    ∙ sym (carried-word n old (word_of_terms n terms) k.rec k.inverted k.flip)))

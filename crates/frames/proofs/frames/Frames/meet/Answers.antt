@@ -1,44 +1,67 @@
-use Rattle.std.proofs.Common.{◌≡◌, ◌<◌, ◌-◌, ◌+◌, ◌∷◌, length, drop, get_or, ap, ap₂, sym, ◌∙◌, arith}
-use Rattle.std.proofs.lemmas.List.{drop_more, drop_all}
-use Rattle.std.proofs.lemmas.List.Elements.{All-get_or}
+-- Each letter goes from those that are left into the parity.
+use Rattle.std.proofs.Common.{◌<◌, length, ap, sym, ◌∙◌}
+use Rattle.bit_rows.specs.Lanes.{lane_bit}
 use Rattle.bit_rows.proofs.LaneLaws.{lane_bit-zero}
+use Rattle.circuit_walk.specs.Letters.{letters_in}
 use Rattle.pauli_word.specs.Letters.{letters_clash}
 use Rattle.pauli_word.specs.Parity.{exclusive_or}
-use Rattle.pauli_word.specs.Words.{anticommute}
+use Rattle.pauli_word.specs.Words.{anticommute, letter_at}
+use Rattle.pauli_word.proofs.Parities.{exclusive_or_assoc, exclusive_or-false}
 use Rattle.run_laws.proofs.ShiftWords.{anticommute-none}
-use Rattle.step_model.specs.declared.step.Term.{Term}
 use Rattle.step_model.specs.Listing.{word_of_terms}
+use Rattle.forward_sim.proofs.TermWords.{fewer, first_fits, rest_fits}
 use Rattle.frames.specs.LaneLetters.{word_in}
-use Rattle.frames.proofs.LaneFrameLaws.{anticommute-first, length-word_in, no_term}
+use Rattle.frames.proofs.LaneFrameLaws.{anticommute-first, length-word_in}
 use Rattle.frames.proofs.frames.Frames.meet.Goals as goal
 
-pub loop-left-init : goal.loop-left-init
-loop-left-init g c =
+pub loop-term-init : goal.loop-term-init
+loop-term-init g c =
     let letters = c.args.self.now.letters in
-    let terms = c.args.terms.now in
     record {
-      within = omega arith;
-      met = λ j.
-          lane_bit-zero j
-          ∙ sym (ap (λ ts. anticommute (word_in j letters) (word_of_terms (length letters) ts)) (drop_all (length terms) terms (omega arith)) ∙ anticommute-none (word_in j letters) (length letters));
+      small = c.requires.small;
+      fit = c.requires.inside;
+      met = λ j. ap (λ b. exclusive_or b (anticommute (word_in j letters) (word_of_terms (length letters) (letters_in c.args.letters)))) (lane_bit-zero j);
     }
 
-pub loop-left-preserved : goal.loop-left-preserved
-loop-left-preserved g c =
+pub at-requires : goal.at-requires
+at-requires g c =
+    first_fits (length c.args.self.now.letters) (letters_in c.loop-term.left) c.in-Some.term (letters_in c.in-Some.rest) c.in-Some.ensures.letters c.loop-term.invariant.fit
+
+pub loop-term-smaller : goal.loop-term-smaller
+loop-term-smaller g c =
+    fewer (length c.args.self.now.letters) (letters_in c.loop-term.left) c.in-Some.term (letters_in c.in-Some.rest) c.in-Some.ensures.letters
+
+pub loop-term-preserved : goal.loop-term-preserved
+loop-term-preserved g c =
     let letters = c.args.self.now.letters in
     let n = length letters in
-    let terms = c.args.terms.now in
-    let i = c.loop-left.left - 1 in
-    let within : i < length terms = omega (arith, c.loop-left.invariant.within) in
-    let term = get_or terms i no_term in
-    let fits : term.qubit < n = All-get_or (λ (t : Term). t.qubit < n) terms i no_term within c.requires in
-    let here : i + 1 ≡ c.loop-left.left = omega arith in
-    let read : drop i terms ≡ term ∷ drop c.loop-left.left terms = drop_more terms i no_term within ∙ ap (λ k. term ∷ drop k terms) here in
+    let left = letters_in c.loop-term.left in
+    let rest = letters_in c.in-Some.rest in
+    let term = c.in-Some.term in
+    let cut = c.in-Some.ensures.letters in
+    let fits : term.qubit < n = first_fits n left term rest cut c.loop-term.invariant.fit in
     record {
-      within = omega (arith, c.loop-left.invariant.within);
+      small = c.in-Some.ensures.small;
+      fit = rest_fits n left term rest cut c.loop-term.invariant.fit;
       met = λ j.
-          c.xor-odd.ensures j
-          ∙ ap₂ exclusive_or (c.clashes.ensures j ∙ ap (λ a. letters_clash a term.letter) (c.at.ensures j)) (c.loop-left.invariant.met j)
-          ∙ sym (anticommute-first n (word_in j letters) term (drop c.loop-left.left terms) (length-word_in j letters) fits)
-          ∙ ap (λ ts. anticommute (word_in j letters) (word_of_terms n ts)) (sym read);
+          let w = word_in j letters in
+          let odd = lane_bit j c.loop-term.odd in
+          let behind = anticommute w (word_of_terms n rest) in
+          ap (λ b. exclusive_or b behind)
+          (c.xor-odd.ensures j ∙ ap (exclusive_or odd) (c.clashes.ensures j ∙ ap (λ a. letters_clash a term.letter) (c.at.ensures j)))
+          ∙ exclusive_or_assoc odd (letters_clash (letter_at w term.qubit) term.letter) behind
+          ∙ ap (exclusive_or odd)
+          (sym (anticommute-first n w term rest (length-word_in j letters) fits) ∙ ap (λ ts. anticommute w (word_of_terms n ts)) (sym cut))
+          ∙ c.loop-term.invariant.met j;
     }
+
+pub returns : goal.returns
+returns g c j =
+    let letters = c.args.self.now.letters in
+    let n = length letters in
+    let w = word_in j letters in
+    let odd = lane_bit j c.loop-term.odd in
+    sym (exclusive_or-false odd)
+    ∙ ap (exclusive_or odd)
+    (sym (ap (λ ts. anticommute w (word_of_terms n ts)) c.in_default.ensures.letters ∙ anticommute-none w n))
+    ∙ c.loop-term.invariant.met j

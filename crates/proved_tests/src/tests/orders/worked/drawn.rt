@@ -1,7 +1,7 @@
 //! Shots that are sampled, beside runs with the faults and coins that are drawn for one shot after another.
+use circuit_walk::Program;
 use engine::{Order, exit_status, serve};
 use forward_sim::{Records, draw, run};
-use programs::Program;
 use rand_core::SeedableRng;
 use rand_pcg::Pcg64;
 use std::alloc::Global;

@@ -1,6 +1,6 @@
 //! A million measurements in two blocks, one inside the other.
+use circuit_walk::Program;
 use engine::{Order, exit_status, serve};
-use programs::Program;
 use std::alloc::Global;
 use step_model::{Cause, Fault, MemorySink, MemorySource};
 use unroll::read_program;

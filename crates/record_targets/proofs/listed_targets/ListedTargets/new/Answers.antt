@@ -9,8 +9,8 @@ use Rattle.record_targets.proofs.ListedLemmas.{all_rows, are_ends, none_put}
 use Rattle.record_targets.proofs.SetLemmas.{listing_below-all}
 use Rattle.record_targets.proofs.listed_targets.ListedTargets.new.Goals as goal
 
-pub put_all-requires : goal.put_all-requires
-put_all-requires g c =
+pub put_all-requires-clause-put : goal.put_all-requires-clause-put
+put_all-requires-clause-put g c =
     let program = c.args.program.now.listing in
     let whole = left_from program 0 in
     let marks = c.set_starts.new.counts.items in

@@ -1,5 +1,0 @@
-pub mod Held
-pub mod KeptNodes
-pub mod Moves
-pub mod Turns
-pub mod WalkStates

@@ -1,6 +1,0 @@
-/// Where a pass stands, and how much it has found so far.
-#[derive(Clone, Copy, Default)]
-pub(crate) struct Mark<P> {
-    pub place: P,
-    pub found: usize,
-}
