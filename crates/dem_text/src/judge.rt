@@ -13,13 +13,11 @@ ghost use Rattle.stim_lexer.specs.Lines.{says_nothing};
 ghost use Rattle.dem_text.specs.private.Lines.{IsReading, Speaks};
 
 use crate::operation::{Operation, keyword_named};
-use crate::target::{
-    GREATEST_NUMBER, Target, TargetForm, are_of_form, is_target_beyond, read_targets,
-};
+use crate::target::{GREATEST_NUMBER, Target, TargetForm, are_of_form, is_target_beyond};
 use std::alloc::{AllocError, Allocator};
 use step_model::Cause;
-use stim_lexer::{Line, Said, cut_line};
-use stim_parser::{ArgumentForm, Causes, Judge, Keyword, Last};
+use stim_lexer::{Line, LineTargets, Said, cut_line};
+use stim_parser::{ArgumentForm, Causes, Judge, Keyword, Last, read_pieces};
 
 /// How often a block is repeated, or by how much detectors shift, by the targets of the line.
 pub fn number_in(targets: &[Target]) -> u64
@@ -79,12 +77,12 @@ impl Judge<Operation, Target, TargetForm> for ModelJudge {
     }
 
     #[inline(always)]
-    fn read_targets<A: Allocator + Copy>(
-        targets: &mut Vec<Target, A>,
+    fn read_targets<L: LineTargets<Target>>(
+        targets: &mut L,
         _: TargetForm,
         text: &[u8],
     ) -> Result<bool, AllocError> {
-        read_targets(targets, text)
+        read_pieces(targets, text)
     }
 
     #[inline(always)]
@@ -132,7 +130,7 @@ pub fn read_line<'a, A: Allocator + Copy>(
     ensures { IfOk result (λ said. reading_in line.entry.number said targets.new.items
         ≡ reading_of model_table depth line.entry.number (cut_in line.entry)) }
 {
-    stim_parser::read_line::<Operation, Target, TargetForm, ModelJudge, A>(
+    stim_parser::read_line::<Operation, Target, TargetForm, ModelJudge, Vec<Target, A>>(
         last, targets, depth, line,
     )
 }

@@ -1,7 +1,7 @@
 -- How many pieces a cut has, which piece is at an index, and one more piece at the end.
 use Rattle.std.proofs.Common.{◌≡◌, ℕ, ◌+◌, ◌-◌, ◌<◌, ◌≤◌, zero, suc, List, [], ◌∷◌, ◌++◌, length, get_or, take, drop, Some, refl, sym, ap, ◌∙◌, arith, slice_get}
 use Rattle.std.specs.Prelude.{All, slice_range}
-use Rattle.std.proofs.lemmas.List.{drop_all, drop_at, drop-append-le, take-append-drop, take-append-le, take_all, length-drop, length-take, get_or_read}
+use Rattle.std.proofs.lemmas.List.{drop_all, drop_at, drop-append-le, take-append-drop, take-append-le, take_all, length-append, length-drop, length-take, get_or_read}
 use Rattle.std.proofs.lemmas.List.Elements.{All-cons, All-drop, All-nil, All-take}
 use Rattle.flat_lists.specs.Cuts.{cut, AreEnds}
 
@@ -132,3 +132,15 @@ IsPieceAt-read ends items {lists} {index} {start} {end} view are below start_is 
 
 -- what each method's goals take
 pub ruleset counts = (length-cut)
+
+-- all items in pieces, of which the last is what came behind the others
+pub cut-rest : {X : Type 0} → (ends : List ℕ) (items : List X) (start count : ℕ) → AreEnds 0 ends start → start ≤ length items → count ≡ length items → (AreEnds 0 (ends ++ count ∷ []) (length items)) × (cut 0 (ends ++ count ∷ []) items ≡ cut 0 ends (take start items) ++ drop start items ∷ [])
+cut-rest {X} ends items start count are within all =
+    let front : length (take start items) ≡ start = simp length-take (omega (arith, within)) in
+    let parts : take start items ++ drop start items ≡ items = take-append-drop start items in
+    let sum : count ≡ length (take start items) + length (drop start items) = rw (← length-append, parts) all in
+    (
+      AreEnds-push 0 ends start count (length items) are (omega (arith, within, all)) all,
+      ap (λ (xs : List X). cut 0 (ends ++ count ∷ []) xs) (sym parts)
+      ∙ cut-push 0 ends (take start items) (drop start items) count (rw front are) sum,
+    )

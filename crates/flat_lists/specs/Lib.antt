@@ -1,3 +1,4 @@
 pub mod Cuts
+pub mod Growing
 pub mod Turns
 pub mod private

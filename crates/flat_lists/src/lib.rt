@@ -5,11 +5,13 @@
 ghost use Rattle.flat_lists.specs.Cuts.{cut, AreEnds};
 ghost use Rattle.std.specs.Prelude.{◌≡◌, true, All, ◌+◌, ◌-◌, ◌<◌, ◌==◌, [], ◌∷◌, ◌++◌, length, take, IfOk, OnOk, OnErr, Some, slice_get, slice_index, slice_index_or};
 
+mod growing_lists;
 mod moved_lists;
 mod number_lists;
 mod packed_lists;
 mod rooms;
 
+pub use growing_lists::GrowingLists;
 pub use number_lists::{MOST_NUMBERS, NumberLists};
 pub use rooms::ListRooms;
 use std::alloc::{AllocError, Allocator};

@@ -11,13 +11,19 @@ pub record Marked (I : Type 0) : Type 0 where
   pub items : List (Item I)
   pub marks : List ℕ
 
-abbrev pub with_item : {I : Type 0} → Item I → ℕ → Marked I → Marked I
-with_item item mark m = record { items = m.items ++ item ∷ []; marks = m.marks ++ mark ∷ [] }
-
--- a text that is read line by line, with the marks of its items
-pub record Begun (I : Type 0) : Type 0 where
+-- a text that is read line by line, with the marks of its items, and the targets of the line that is read
+pub record Begun (I T : Type 0) : Type 0 where
   pub text : Unfinished I
   pub marks : List ℕ
+  pub targets : List T
+
+-- no line was read
+abbrev pub nothing_begun : {I T : Type 0} → Begun I T
+nothing_begun = record { text = record { items = []; opened = [] }; marks = []; targets = [] }
+
+-- all of it but these targets
+abbrev pub but_targets : {I T : Type 0} → Begun I T → Unfinished I × List ℕ
+but_targets b = (b.text, b.marks)
 
 -- the mark of the item of a line, where its instruction has this one
 abbrev pub line_marks : {O : Type 0} → Said O → ℕ → List ℕ
@@ -34,8 +40,9 @@ coded_marked {I} instruction =
     (λ p. record { items = p.0; marks = p.1 })
     (λ _. refl)
 
-abbrev pub coded_begun : {I : Type 0} → Coded I → Coded (Begun I)
-coded_begun {I} instruction =
-    code_by (Unfinished I × List ℕ) (coded× (coded_unfinished instruction) (coded_list coded_ℕ)) (λ b. (b.text, b.marks))
-    (λ p. record { text = p.0; marks = p.1 })
+abbrev pub coded_begun : {I T : Type 0} → Coded I → Coded T → Coded (Begun I T)
+coded_begun {I} {T} instruction target =
+    code_by (Unfinished I × (List ℕ × List T)) (coded× (coded_unfinished instruction) (coded× (coded_list coded_ℕ) (coded_list target)))
+    (λ b. (b.text, (b.marks, b.targets)))
+    (λ p. record { text = p.0; marks = p.1.0; targets = p.1.1 })
     (λ _. refl)

@@ -1,10 +1,8 @@
-ghost use Rattle.std.specs.Prelude.{◌≡◌, ◌<◌, [], Some, length, slice_get, slice_index_or, OnOk, OnErr};
-ghost use Rattle.stim_lexer.specs.Kept.{item_in, item_kept, mark_in, mark_kept};
-ghost use Rattle.stim_lexer.specs.Marked.{with_item};
-ghost use Rattle.stim_lexer.specs.Trees.{BlockStart, BlockEnd};
+ghost use Rattle.std.specs.Prelude.{◌≡◌, ◌<◌, Some, length, map, slice_get, slice_index_or};
+ghost use Rattle.stim_lexer.specs.Kept.{item_in, items_kept, mark_in, mark_kept};
 
 use flat_lists::FlatLists;
-use std::alloc::{AllocError, Allocator};
+use std::alloc::Allocator;
 use std::marker::Model;
 
 /// An instruction of a text: the line that it stands on, what it does, the text between its parentheses, and its targets.
@@ -75,14 +73,13 @@ impl<O: Copy, T: Copy, A: Allocator + Copy> Drop for Items<'_, O, T, A> {
 }
 
 impl<'a, O: Copy, T: Copy, A: Allocator + Copy> Items<'a, O, T, A> {
-    /// No items. Takes no memory.
-    pub(crate) fn new(alloc: A) -> Self
-        ensures { result ≡ record { items = []; marks = [] } }
+    /// The items of nodes with their targets, a list for each.
+    pub(crate) fn of(nodes: Vec<Node<'a, O>, A>, targets: FlatLists<T, A>) -> Self
+        requires { length nodes.items ≡ length targets }
+        ensures { result
+            ≡ record { items = items_kept targets nodes.entry.items; marks = map mark_kept nodes.entry.items } }
     {
-        Items {
-            nodes: Vec::new(alloc),
-            targets: FlatLists::new(alloc),
-        }
+        Items { nodes, targets }
     }
 
     /// How many items there are, with the ends of blocks.
@@ -92,39 +89,6 @@ impl<'a, O: Copy, T: Copy, A: Allocator + Copy> Items<'a, O, T, A> {
         ensures { result ≡ length self.now.items }
     {
         self.nodes.len()
-    }
-
-    /// Appends an item with a copy of its targets. It fails only where memory runs out.
-    #[inline(always)]
-    pub(crate) fn push(&mut self, node: Node<'a, O>, targets: &[T]) -> Result<(), AllocError>
-        ensures ok { OnOk result
-            (self.new
-            ≡ with_item (item_kept targets.now node.entry) (mark_kept node.entry) self.old) }
-        ensures err { OnErr result (self.new ≡ self.old) }
-    {
-        // Room for the node first, so that nothing changes where memory runs out.
-        self.nodes.reserve(1)?;
-        self.targets.push(targets)?;
-        self.nodes.push_reserved(node);
-        Ok(())
-    }
-
-    /// Appends the start of a block. It fails only where memory runs out.
-    #[inline(never)]
-    pub(crate) fn begin(&mut self, line: u64, turns: u64) -> Result<(), AllocError>
-        ensures ok { OnOk result (self.new ≡ with_item (BlockStart line turns) 0 self.old) }
-        ensures err { OnErr result (self.new ≡ self.old) }
-    {
-        self.push(Node::BlockStart { line, turns }, &[])
-    }
-
-    /// Appends the end of a block. It fails only where memory runs out.
-    #[inline(never)]
-    pub(crate) fn end(&mut self) -> Result<(), AllocError>
-        ensures ok { OnOk result (self.new ≡ with_item BlockEnd 0 self.old) }
-        ensures err { OnErr result (self.new ≡ self.old) }
-    {
-        self.push(Node::BlockEnd, &[])
     }
 
     /// The item at a place.

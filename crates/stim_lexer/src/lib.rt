@@ -8,6 +8,7 @@ mod builder;
 mod items;
 mod lexer;
 mod line;
+mod line_targets;
 mod said;
 mod scan;
 
@@ -16,5 +17,6 @@ pub use builder::Builder;
 pub use items::{Instruction, Item, Items};
 pub use lexer::{Lexer, cut_line};
 pub use line::{Braces, Line};
+pub use line_targets::LineTargets;
 pub use said::Said;
 pub use scan::{after_blanks, cut_at, cut_near, first_line, is_blank};

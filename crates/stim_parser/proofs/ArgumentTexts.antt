@@ -25,7 +25,7 @@ AreWords (a ∷ arguments) = (is_word a ≡ true) × AreWords arguments
 
 -- ---- arguments that are read
 
-no_comma : (a : List ℕ) → is_word a ≡ true → list_any is_comma a ≡ false
+pub no_comma : (a : List ℕ) → is_word a ≡ true → list_any is_comma a ≡ false
 no_comma a h = none-where is_comma is_word_byte a (λ b w. other_byte 44 b refl w) (word_bytes a h)
 
 parts_found : (x : List ℕ) (arguments : List (List ℕ)) → list_any is_comma x ≡ false → AreWords arguments → slice_split is_comma (x ++ more_arguments arguments) ≡ x ∷ map (λ a. 32 ∷ a) arguments
@@ -104,7 +104,7 @@ signed_is_word (b ∷ text) some h =
       | inr other ↦ rw other at h
     ]
 
-whole_is_word : (text : List ℕ) → is_whole_number text ≡ true → is_word text ≡ true
+pub whole_is_word : (text : List ℕ) → is_whole_number text ≡ true → is_word text ≡ true
 whole_is_word [] h = absurd (false≢true h)
 whole_is_word (b ∷ text) h =
     signed_is_word (b ∷ text) refl (word_bytes (without_minus (b ∷ text)) (number_is_word (without_minus (b ∷ text)) h))

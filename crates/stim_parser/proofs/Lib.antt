@@ -17,6 +17,7 @@ mod JudgeLemmas
 pub mod NameLemmas
 mod PieceLemmas
 mod PieceValueLemmas
+mod ShortNumberLemmas
 mod SignificantLemmas
 pub mod FitLemmas
 pub mod CircuitFits

@@ -55,7 +55,7 @@ pub record Keeps {O T F : Type 0} (table : Table O T F) (texts : List ChanceText
   pub few : length texts ≤ instruction_count read.items
 
 -- the items of a text that is read line by line
-abbrev pub marked_in : {I : Type 0} → Begun I → Marked I
+abbrev pub marked_in : {I T : Type 0} → Begun I T → Marked I
 marked_in begun = record { items = begun.text.items; marks = begun.marks }
 
 -- ---- a line

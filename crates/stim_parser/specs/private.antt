@@ -4,3 +4,4 @@ pub mod Words
 pub mod QubitSets
 pub mod Questions
 pub mod Significant
+pub mod ShortNumbers

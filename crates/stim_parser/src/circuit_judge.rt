@@ -15,9 +15,9 @@ use crate::target::{Target, read_targets};
 use crate::target_checks::{are_of_form, has_same_qubit, has_wrong_count, is_target_beyond};
 use crate::target_word::TargetWord;
 use gate_table::Gate;
-use std::alloc::{AllocError, Allocator};
+use std::alloc::AllocError;
 use step_model::Cause;
-use stim_lexer::after_blanks;
+use stim_lexer::{LineTargets, after_blanks};
 
 fn takes_none(form: TargetForm) -> bool
     ensures { result ≡ takes_none form }
@@ -129,8 +129,8 @@ impl Judge<Operation, TargetWord, TargetForm> for CircuitJudge {
         }
     }
 
-    fn read_targets<A: Allocator + Copy>(
-        targets: &mut Vec<TargetWord, A>,
+    fn read_targets<L: LineTargets<TargetWord>>(
+        targets: &mut L,
         form: TargetForm,
         text: &[u8],
     ) -> Result<bool, AllocError> {

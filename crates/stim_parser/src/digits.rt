@@ -1,4 +1,4 @@
-ghost use Rattle.std.specs.Prelude.{◌≡◌, ◌+◌, ◌<◌, ◌≤◌, true, length, not, position};
+ghost use Rattle.std.specs.Prelude.{◌≡◌, ◌+◌, ◌<◌, ◌≤◌, ◌++◌, true, length, not, position};
 ghost use Rattle.std.specs.Char.{is_ascii_digit};
 ghost use Rattle.std.specs.List.{list_all};
 ghost use Rattle.step_model.specs.Probabilities.{front_digits, after_digits};
@@ -81,6 +81,7 @@ fn long_number_of(text: &[u8]) -> Option<u64>
 }
 
 /// Where the first byte stands that isn't a digit.
+#[inline(always)]
 fn place_after_digits(text: &[u8]) -> Option<usize>
     ensures { result ≡ position (λ b. not (is_ascii_digit b)) text.now }
 {
@@ -88,9 +89,11 @@ fn place_after_digits(text: &[u8]) -> Option<usize>
 }
 
 /// The digits at the front of a text, and what follows them.
+#[inline(always)]
 pub(crate) fn cut_digits(text: &[u8]) -> (&[u8], &[u8])
     ensures front { result.0.now ≡ front_digits text.now }
     ensures after { result.1.now ≡ after_digits text.now }
+    ensures text { text.now ≡ result.0.now ++ result.1.now }
     ensures digits { list_all is_ascii_digit result.0.now ≡ true }
     ensures len { length result.0.now + length result.1.now ≡ length text.now }
 {

@@ -16,12 +16,13 @@ use crate::argument_checks::{
 use crate::arguments::read_arguments;
 use crate::forms::ArgumentForm;
 use crate::last::Last;
+use crate::short_numbers::{GREATEST_SHORT, are_short};
 use crate::table::{Causes, Judge, Keyword};
 use crate::whole_numbers::{are_beyond, put_whole_numbers};
 use arrayvec::ArrayVec;
-use std::alloc::{AllocError, Allocator};
+use std::alloc::AllocError;
 use step_model::Cause;
-use stim_lexer::{Braces, LEVELS, Line, Said};
+use stim_lexer::{Braces, LEVELS, Line, LineTargets, Said};
 
 /// Whether the braces of a line stand otherwise than its keyword asks.
 fn misplaces_brace<O: Copy>(keyword: Option<Keyword<O>>, braces: Braces) -> bool
@@ -81,13 +82,25 @@ fn arguments_of<'a>(
         return Ok(false);
     }
     match form {
-        ArgumentForm::WholeNumbers => whole_numbers_in(causes, greatest, line),
+        ArgumentForm::WholeNumbers => whole_numbers_of(causes, greatest, line),
         _ => closed_arguments_of(last, causes, greatest, form, line),
     }
 }
 
-/// The same for a line that takes whole numbers, and on which no tag and no parentheses stay open. It stands
-/// apart, since its list would be cleared at each line.
+/// The same for a line that takes whole numbers, and on which no tag and no parentheses stay open. Most are short, and
+/// found so at once. It stands apart, since other lines have the registers to themselves then.
+#[inline(never)]
+fn whole_numbers_of(causes: Causes, greatest: u64, line: Line<'_>) -> Result<bool, Cause>
+    requires { line.stays_open ≡ false }
+    ensures { ArgumentsOf causes greatest WholeNumbers (cut_in line.entry) result }
+{
+    if GREATEST_SHORT <= greatest && are_short(line.arguments) {
+        return Ok(false);
+    }
+    whole_numbers_in(causes, greatest, line)
+}
+
+/// The same for such a line, whose numbers are kept first. It stands apart, since the list would be cleared at each line.
 #[inline(never)]
 fn whole_numbers_in(causes: Causes, greatest: u64, line: Line<'_>) -> Result<bool, Cause>
     requires { line.stays_open ≡ false }
@@ -134,14 +147,15 @@ fn closed_arguments_of<'a>(
 
 /// Puts the targets of a line into `targets`, in place of what it held, and answers whether each can be read and is of
 /// this form.
-fn read_line_targets<O: Copy, T: Copy, F: Copy, J: Judge<O, T, F>, A: Allocator + Copy>(
-    targets: &mut Vec<T, A>,
+fn read_line_targets<O: Copy, T: Copy, F: Copy, J: Judge<O, T, F>, L: LineTargets<T>>(
+    targets: &mut L,
     form: F,
     text: &[u8],
 ) -> Result<bool, AllocError>
     ensures wrong { IfOk result (λ right. has_wrong_target J.table form text.now ≡ not right) }
-    ensures items { IfOk result (λ right. right ≡ true
-        → targets.new.items ≡ read_targets J.table form text.now) }
+    ensures targets { IfOk result (λ right. right ≡ true
+        → L.targets targets.new ≡ read_targets J.table form text.now) }
+    ensures others { IfOk result (λ right. L.others targets.new ≡ L.others targets.old) }
 {
     if !J::read_targets(targets, form, text)? {
         return Ok(false);
@@ -205,9 +219,9 @@ fn refusal_of_amounts<O: Copy, T: Copy, F: Copy, J: Judge<O, T, F>>(
 
 /// The refusal of a line with this keyword, where `depth` blocks are open. Where there is none, `targets` has the
 /// line's targets then.
-fn refusal_of<'a, O: Copy, T: Copy, F: Copy, J: Judge<O, T, F>, A: Allocator + Copy>(
+fn refusal_of<'a, O: Copy, T: Copy, F: Copy, J: Judge<O, T, F>, L: LineTargets<T>>(
     last: &mut Last<'a>,
-    targets: &mut Vec<T, A>,
+    targets: &mut L,
     depth: usize,
     keyword: Keyword<O>,
     line: Line<'a>,
@@ -215,8 +229,9 @@ fn refusal_of<'a, O: Copy, T: Copy, F: Copy, J: Judge<O, T, F>, A: Allocator + C
     ensures refusal { IfOk result (λ refusal. refusal
         ≡ first_of (refusals_of_keyword J.table depth keyword (cut_in line.entry))) }
     ensures targets { IfOk result (λ refusal. refusal ≡ None
-        → targets.new.items
+        → L.targets targets.new
         ≡ read_targets J.table (J.table.target_form keyword) line.entry.targets.now) }
+    ensures others { IfOk result (λ refusal. L.others targets.new ≡ L.others targets.old) }
     ensures last { IfOk result (λ refusal. refusal ≡ None
         → RemembersText (J.table.argument_form keyword) line.entry.arguments.now
         last.new.parentheses) }
@@ -227,7 +242,7 @@ fn refusal_of<'a, O: Copy, T: Copy, F: Copy, J: Judge<O, T, F>, A: Allocator + C
         Err(cause) => return Ok(Some(cause)),
     };
     let form = J::target_form(keyword);
-    if !read_line_targets::<O, T, F, J, A>(targets, form, line.targets)? {
+    if !read_line_targets::<O, T, F, J, L>(targets, form, line.targets)? {
         return Ok(Some(J::causes().target));
     }
     Ok(refusal_of_amounts::<O, T, F, J>(depth, keyword, form, line, beyond, targets.as_slice()))
@@ -271,14 +286,15 @@ fn closed_at<'a, O: Copy, T: Copy>(causes: Causes, depth: usize) -> Said<'a, O>
 /// Reads a cut line where `depth` blocks are open, and puts its targets into `targets`, in place of what it held. Where
 /// the line is no accepted instruction, nothing is promised of `targets`.
 #[tactic(auto, unfolding(crate::specs::Judging::reading_of))]
-pub fn read_line<'a, O: Copy, T: Copy, F: Copy, J: Judge<O, T, F>, A: Allocator + Copy>(
+pub fn read_line<'a, O: Copy, T: Copy, F: Copy, J: Judge<O, T, F>, L: LineTargets<T>>(
     last: &mut Last<'a>,
-    targets: &mut Vec<T, A>,
+    targets: &mut L,
     depth: usize,
     line: Line<'a>,
 ) -> Result<Said<'a, O>, AllocError>
-    ensures reading { IfOk result (λ said. reading_in line.entry.number said targets.new.items
+    ensures reading { IfOk result (λ said. reading_in line.entry.number said (L.targets targets.new)
         ≡ reading_of J.table depth line.entry.number (cut_in line.entry)) }
+    ensures others { IfOk result (λ said. L.others targets.new ≡ L.others targets.old) }
     ensures last { IfOk result (λ said. Remembers J.table said last.new.parentheses) }
 {
     match line.braces {
@@ -288,7 +304,7 @@ pub fn read_line<'a, O: Copy, T: Copy, F: Copy, J: Judge<O, T, F>, A: Allocator 
                 Ok(keyword) => keyword,
                 Err(cause) => return Ok(Said::Refuses(cause)),
             };
-            match refusal_of::<O, T, F, J, A>(last, targets, depth, keyword, line)? {
+            match refusal_of::<O, T, F, J, L>(last, targets, depth, keyword, line)? {
                 Some(cause) => Ok(Said::Refuses(cause)),
                 None => Ok(accepted::<O, T, F, J>(keyword, line, targets.as_slice())),
             }

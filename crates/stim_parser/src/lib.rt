@@ -24,6 +24,7 @@ mod probability;
 mod products;
 mod qubit_set;
 mod reader;
+mod short_numbers;
 mod significant;
 mod table;
 mod target;

@@ -3,7 +3,8 @@ ghost use Rattle.stim_parser.specs.Pieces.{pieces_of};
 ghost use Rattle.stim_parser.specs.Targets.{each_of};
 
 use crate::piece::next_piece;
-use std::alloc::{AllocError, Allocator};
+use std::alloc::AllocError;
+use stim_lexer::LineTargets;
 
 /// A value that a piece of a text writes, such as a target.
 pub trait PieceValue: Copy {
@@ -15,13 +16,14 @@ pub trait PieceValue: Copy {
 }
 
 /// Puts the values that the pieces of a text write in place of those that were there. Answers whether each piece writes one.
-pub fn read_pieces<V: PieceValue, A: Allocator + Copy>(
-    values: &mut Vec<V, A>,
+pub fn read_pieces<V: PieceValue, L: LineTargets<V>>(
+    values: &mut L,
     text: &[u8],
 ) -> Result<bool, AllocError>
-    ensures { IfOk result (λ all. MatchBool all
-        (each_of V.written (pieces_of text.now) ≡ Some values.new.items)
+    ensures read { IfOk result (λ all. MatchBool all
+        (each_of V.written (pieces_of text.now) ≡ Some (L.targets values.new))
         (each_of V.written (pieces_of text.now) ≡ None)) }
+    ensures others { IfOk result (λ all. L.others values.new ≡ L.others values.old) }
 {
     values.clear();
     let mut rest = text;

@@ -58,7 +58,6 @@ fn read_next<'a, O: Copy, T: Copy, F: Copy, J: Judge<O, T, F>, A: Allocator + Co
     builder: &mut Builder<'a, O, T, A>,
     texts: &mut Vec<ChanceText<'a>, A>,
     last: &mut Last<'a>,
-    targets: &mut Vec<T, A>,
     line: Line<'a>,
 ) -> Result<(), Fault>
     requires { Keeps J.table texts.old.items (marked_in builder.old) }
@@ -79,9 +78,10 @@ fn read_next<'a, O: Copy, T: Copy, F: Copy, J: Judge<O, T, F>, A: Allocator + Co
         ≡ Some fault.cause))) }
 {
     let number = line.number;
-    let said = read_line::<O, T, F, J, A>(last, targets, builder.depth(), line)?;
+    let depth = builder.depth();
+    let said = read_line::<O, T, F, J, Builder<'a, O, T, A>>(last, builder, depth, line)?;
     let mark = mark_of::<O, T, F, J, A>(texts, &last.parentheses, &said)?;
-    match builder.take(number, said, mark, targets.as_slice())? {
+    match builder.take_read(number, said, mark)? {
         Some(cause) => Err(Fault {
             cause,
             line: number,
@@ -105,9 +105,8 @@ fn read_items<'a, O: Copy, T: Copy, F: Copy, J: Judge<O, T, F>, A: Allocator + C
     let mut builder = Builder::new(alloc);
     let mut texts = Vec::new(alloc);
     let mut last = Last::new();
-    let mut targets = Vec::new(alloc);
     while let Some(line) = lexer.next_line()? {
-        read_next::<O, T, F, J, A>(&mut builder, &mut texts, &mut last, &mut targets, line)?;
+        read_next::<O, T, F, J, A>(&mut builder, &mut texts, &mut last, line)?;
     }
     let items = builder.finish(J::causes().block)?;
     Ok(Numbered { items, texts })

@@ -4,8 +4,9 @@ ghost use Rattle.stim_parser.specs.Judging.{Table, first_of};
 
 use crate::forms::ArgumentForm;
 use crate::last::Last;
-use std::alloc::{AllocError, Allocator};
+use std::alloc::AllocError;
 use step_model::Cause;
+use stim_lexer::LineTargets;
 
 /// What a name says: an instruction, or the start of a block.
 #[derive(Clone, Copy)]
@@ -54,14 +55,15 @@ pub trait Judge<O: Copy, T: Copy, F: Copy> {
         ensures { result ≡ table.target_form keyword };
 
     /// Puts the targets of a line in place of those that were there. Answers whether each can be read.
-    fn read_targets<A: Allocator + Copy>(
-        targets: &mut Vec<T, A>,
+    fn read_targets<L: LineTargets<T>>(
+        targets: &mut L,
         form: F,
         text: &[u8],
     ) -> Result<bool, AllocError>
-        ensures { IfOk result (λ all. MatchBool all
-            (table.line_targets form text.now ≡ Some targets.new.items)
-            (table.line_targets form text.now ≡ None)) };
+        ensures read { IfOk result (λ all. MatchBool all
+            (table.line_targets form text.now ≡ Some (L.targets targets.new))
+            (table.line_targets form text.now ≡ None)) }
+        ensures others { IfOk result (λ all. L.others targets.new ≡ L.others targets.old) };
 
     /// Whether targets are of a form.
     fn are_of_form(form: F, targets: &[T]) -> bool

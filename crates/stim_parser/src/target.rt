@@ -7,7 +7,8 @@ use crate::digits::number_of;
 use crate::piece_values::{PieceValue, read_pieces};
 use crate::target_word::TargetWord;
 use pauli_word::Letter;
-use std::alloc::{AllocError, Allocator};
+use std::alloc::AllocError;
+use stim_lexer::LineTargets;
 
 /// A target as it is written. All numbers from 10^18 on are taken as one, which is beyond every limit.
 #[derive(Clone, Copy)]
@@ -149,13 +150,14 @@ impl PieceValue for TargetWord {
 
 /// Puts the targets of a text in place of those that were there. Answers whether each of its pieces is a target.
 #[tactic(auto, unfolding(crate::specs::Targets::targets_in))]
-pub(crate) fn read_targets<A: Allocator + Copy>(
-    targets: &mut Vec<TargetWord, A>,
+pub(crate) fn read_targets<L: LineTargets<TargetWord>>(
+    targets: &mut L,
     text: &[u8],
 ) -> Result<bool, AllocError>
-    ensures { IfOk result (λ all. MatchBool all
-        (targets_in text.now ≡ Some targets.new.items)
+    ensures read { IfOk result (λ all. MatchBool all
+        (targets_in text.now ≡ Some (L.targets targets.new))
         (targets_in text.now ≡ None)) }
+    ensures others { IfOk result (λ all. L.others targets.new ≡ L.others targets.old) }
 {
     read_pieces(targets, text)
 }

@@ -36,6 +36,6 @@ returns c =
     let nested : AreNested c.take-9.new.builder.text.items =
     built x y z c.new-builder.result.text c.take.new.builder.text c.take-2.new.builder.text c.take-3.new.builder.text
     c.take-4.new.builder.text c.take-5.new.builder.text c.take-6.new.builder.text c.take-7.new.builder.text c.take-8.new.builder.text c.take-9.new.builder.text
-    (ap (λ (b : Begun (Instruction ℕ ℕ)). b.text) c.new-builder.ensures) c.in_ok-take.ensures c.in_ok-take-2.ensures c.in_ok-take-3.ensures
+    (ap (λ (b : Begun (Instruction ℕ ℕ) ℕ). b.text) c.new-builder.ensures) c.in_ok-take.ensures c.in_ok-take-2.ensures c.in_ok-take-3.ensures
     c.in_ok-take-4.ensures c.in_ok-take-5.ensures c.in_ok-take-6.ensures c.in_ok-take-7.ensures c.in_ok-take-8.ensures c.in_ok-take-9.ensures in
     subst (λ (is : List (Item (Instruction ℕ ℕ))). AreNested is) (sym (ap (λ (k : Marked (Instruction ℕ ℕ)). k.items) c.in_ok-items.ensures.items)) nested

@@ -17,7 +17,7 @@ returns-in-Some-clause-reading g c =
 pub returns-in-None-clause-reading : goal.returns-in-None-clause-reading
 returns-in-None-clause-reading g c =
     let cut = cut_in c.args.line in
-    ap (λ targets. reading_in c.args.line.number c.accepted.result targets) (sym c.as_slice.ensures.value)
+    ap (λ targets. reading_in c.args.line.number c.accepted.result targets) (sym c.as_slice.ensures)
     ∙ (c.accepted.ensures.reading
     ∙ sym (reading-accepted g.J.Judge.table c.args.depth c.args.line.number cut c.in-Ok.keyword c.in_default.not-ClosingAlone c.in-Ok.ensures.0
     (refusal-keyword g.J.Judge.table c.args.depth cut c.in-Ok.keyword c.in-Ok.ensures.0 c.in-Ok.ensures.1 ∙ (sym c.in_ok-cause-in_default.ensures.refusal ∙ c.in-None.is))))

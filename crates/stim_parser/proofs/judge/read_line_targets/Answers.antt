@@ -10,20 +10,20 @@ returns-then-not-branch-clause-wrong g c =
     let table = g.J.Judge.table in
     let text = c.args.text.now in
     let unread : table.line_targets c.args.form text ≡ None =
-    MatchBool-at_false (table.line_targets c.args.form text ≡ Some c.read_targets.new.targets.items) (table.line_targets c.args.form text ≡ None) c.if-not-branch.true c.in_ok-read_targets.ensures in
+    MatchBool-at_false (table.line_targets c.args.form text ≡ Some (g.L.LineTargets.targets c.read_targets.new.targets)) (table.line_targets c.args.form text ≡ None) c.if-not-branch.true c.in_ok-read_targets.ensures.read in
     wrong_target-at table c.args.form text None unread
 
 -- the targets, as they are read
-read : (g : Over) (c : After-are_of_form g) → g.J.Judge.table.line_targets c.args.form c.args.text.now ≡ Some c.read_targets.new.targets.items
-read g c = MatchBool-at_true _ (g.J.Judge.table.line_targets c.args.form c.args.text.now ≡ None) c.if-not-branch.false c.in_ok-read_targets.ensures
+read : (g : Over) (c : After-are_of_form g) → g.J.Judge.table.line_targets c.args.form c.args.text.now ≡ Some (g.L.LineTargets.targets c.read_targets.new.targets)
+read g c = MatchBool-at_true _ (g.J.Judge.table.line_targets c.args.form c.args.text.now ≡ None) c.if-not-branch.false c.in_ok-read_targets.ensures.read
 
 pub returns-clause-wrong : goal.returns-clause-wrong
 returns-clause-wrong g c =
     let table = g.J.Judge.table in
-    wrong_target-at table c.args.form c.args.text.now (Some c.read_targets.new.targets.items) (read g (goal.at.returns-clause-wrong g c).After-are_of_form)
-    ∙ ap not (ap (table.are_of_form c.args.form) (sym c.as_slice.ensures.value) ∙ sym c.are_of_form.ensures)
+    wrong_target-at table c.args.form c.args.text.now (Some (g.L.LineTargets.targets c.read_targets.new.targets)) (read g (goal.at.returns-clause-wrong g c).After-are_of_form)
+    ∙ ap not (ap (table.are_of_form c.args.form) (sym c.as_slice.ensures) ∙ sym c.are_of_form.ensures)
 
-pub returns-clause-items : goal.returns-clause-items
-returns-clause-items g c =
-    let is = read g (goal.at.returns-clause-items g c).After-are_of_form in
-    λ right. sym (read_targets-at g.J.Judge.table c.args.form c.args.text.now (Some c.read_targets.new.targets.items) is)
+pub returns-clause-targets : goal.returns-clause-targets
+returns-clause-targets g c =
+    let is = read g (goal.at.returns-clause-targets g c).After-are_of_form in
+    λ right. sym (read_targets-at g.J.Judge.table c.args.form c.args.text.now (Some (g.L.LineTargets.targets c.read_targets.new.targets)) is)

@@ -1,4 +1,4 @@
-use Rattle.std.proofs.Common.{ap, sym, ◌∙◌}
+use Rattle.std.proofs.Common.{ap, sym, refl, ◌∙◌}
 use Rattle.stim_parser.specs.Pieces.{pieces_of}
 use Rattle.stim_parser.specs.Targets.{each_of}
 use Rattle.stim_parser.proofs.PieceValueLemmas.{with_front, with_front-more, with_front-ends, with_front-done, with_front-none}
@@ -6,20 +6,26 @@ use Rattle.stim_parser.proofs.piece_values.read_pieces.Goals as goal
 
 pub loop-piece-init : goal.loop-piece-init
 loop-piece-init g c =
-    ap (λ front. with_front front (each_of g.V.PieceValue.written (pieces_of c.args.text.now))) c.clear.ensures.items
-    ∙ with_front-none (each_of g.V.PieceValue.written (pieces_of c.args.text.now))
+    (
+      ap (λ front. with_front front (each_of g.V.PieceValue.written (pieces_of c.args.text.now))) c.clear.ensures.targets
+      ∙ with_front-none (each_of g.V.PieceValue.written (pieces_of c.args.text.now)),
+      c.clear.ensures.others,
+    )
 
-pub returns-in_default-of_piece : goal.returns-in_default-of_piece
-returns-in_default-of_piece g c =
-    sym c.loop-piece.invariant
-    ∙ with_front-ends g.V.PieceValue.written c.loop-piece.values.items _ _ _ c.in-Some.ensures.pieces (sym c.of_piece.ensures ∙ c.in_default-of_piece.is)
+pub returns-in_default-of_piece-clause-read : goal.returns-in_default-of_piece-clause-read
+returns-in_default-of_piece-clause-read g c =
+    sym c.loop-piece.invariant.0
+    ∙ with_front-ends g.V.PieceValue.written (g.L.LineTargets.targets c.loop-piece.values) _ _ _ c.in-Some.ensures.pieces (sym c.of_piece.ensures ∙ c.in_default-of_piece.is)
 
 pub loop-piece-preserved : goal.loop-piece-preserved
 loop-piece-preserved g c =
-    rw c.in_ok-push.ensures.items
-    (sym (with_front-more g.V.PieceValue.written c.loop-piece.values.items _ _ _ c.in-Some-of_piece.value c.in-Some.ensures.pieces (sym c.in-Some-of_piece.is ∙ c.of_piece.ensures))
-    ∙ c.loop-piece.invariant)
+    (
+      rw c.in_ok-push.ensures.targets
+      (sym (with_front-more g.V.PieceValue.written (g.L.LineTargets.targets c.loop-piece.values) _ _ _ c.in-Some-of_piece.value c.in-Some.ensures.pieces (sym c.in-Some-of_piece.is ∙ c.of_piece.ensures))
+      ∙ c.loop-piece.invariant.0),
+      c.in_ok-push.ensures.others ∙ c.loop-piece.invariant.1,
+    )
 
-pub returns : goal.returns
-returns g c =
-    sym c.loop-piece.invariant ∙ with_front-done g.V.PieceValue.written c.loop-piece.values.items _ c.in_default.ensures.pieces
+pub returns-clause-read : goal.returns-clause-read
+returns-clause-read g c =
+    sym c.loop-piece.invariant.0 ∙ with_front-done g.V.PieceValue.written (g.L.LineTargets.targets c.loop-piece.values) _ c.in_default.ensures.pieces

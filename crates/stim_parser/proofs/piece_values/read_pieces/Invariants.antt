@@ -5,7 +5,9 @@ use Rattle.stim_parser.proofs.PieceValueLemmas.{with_front}
 use Rattle.stim_parser.proofs.piece_values.read_pieces.Given as goal
 
 abbrev pub invariant-loop-piece : goal.invariant-loop-piece
-invariant-loop-piece g l = with_front l.values.items (each_of g.V.PieceValue.written (pieces_of l.rest)) ≡ each_of g.V.PieceValue.written (pieces_of l.fn.text)
+invariant-loop-piece g l =
+    (with_front (g.L.LineTargets.targets l.values) (each_of g.V.PieceValue.written (pieces_of l.rest)) ≡ each_of g.V.PieceValue.written (pieces_of l.fn.text))
+    × (g.L.LineTargets.others l.values ≡ g.L.LineTargets.others l.fn.values)
 
 abbrev pub decreases-loop-piece : goal.decreases-loop-piece
 decreases-loop-piece g l = length l.rest

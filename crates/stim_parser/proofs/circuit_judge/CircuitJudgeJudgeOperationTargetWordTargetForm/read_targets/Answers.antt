@@ -3,14 +3,14 @@ use Rattle.stim_parser.specs.declared.target.Target.{Target}
 use Rattle.stim_parser.specs.Verdicts.{line_targets, takes_none}
 use Rattle.stim_parser.proofs.circuit_judge.CircuitJudgeJudgeOperationTargetWordTargetForm.read_targets.Goals as goal
 
-pub returns-then-takes_none : goal.returns-then-takes_none
+pub returns-then-takes_none-clause-read : goal.returns-then-takes_none-clause-read
 unfolding line_targets
-returns-then-takes_none g c =
+returns-then-takes_none-clause-read g c =
     let takes : takes_none c.args.form ≡ true = sym c.takes_none.ensures ∙ c.if-takes_none.true in
-    rw takes (ap (λ (targets : List Target). Some targets) (sym c.clear.ensures.items))
+    rw takes (ap (λ (targets : List Target). Some targets) (sym c.clear.ensures.targets))
 
-pub returns : goal.returns
+pub returns-clause-read : goal.returns-clause-read
 unfolding line_targets
-returns g c =
+returns-clause-read g c =
     let takes : takes_none c.args.form ≡ false = sym c.takes_none.ensures ∙ c.if-takes_none.false in
-    rw takes c.read_targets.ensures
+    rw takes c.read_targets.ensures.read
