@@ -77,6 +77,7 @@ impl Judge<Operation, Target, TargetForm> for ModelJudge {
     }
 
     #[inline(always)]
+    #[tactic(auto, unfolding(crate::specs::Targets::targets_in))]
     fn read_targets<L: LineTargets<Target>>(
         targets: &mut L,
         _: TargetForm,

@@ -138,9 +138,8 @@ pub cut-rest : {X : Type 0} → (ends : List ℕ) (items : List X) (start count 
 cut-rest {X} ends items start count are within all =
     let front : length (take start items) ≡ start = simp length-take (omega (arith, within)) in
     let parts : take start items ++ drop start items ≡ items = take-append-drop start items in
-    let sum : count ≡ length (take start items) + length (drop start items) = rw (← length-append, parts) all in
-    (
+    let sum : count ≡ length (take start items) + length (drop start items) = rw (← length-append, parts) all in (
       AreEnds-push 0 ends start count (length items) are (omega (arith, within, all)) all,
       ap (λ (xs : List X). cut 0 (ends ++ count ∷ []) xs) (sym parts)
-      ∙ cut-push 0 ends (take start items) (drop start items) count (rw front are) sum,
+          ∙ cut-push 0 ends (take start items) (drop start items) count (rw front are) sum,
     )

@@ -1,5 +1,5 @@
 -- Items, and for each a number: for an instruction a mark, by which the reader of a format knows more of it; for others 0.
-use Rattle.std.specs.Prelude.{ℕ, List, [], ◌∷◌, ◌++◌, refl}
+use Rattle.std.specs.Prelude.{ℕ, List, [], ◌∷◌, refl}
 use Rattle.std.specs.Coded.{Coded, code_by, coded×, coded_ℕ, coded_list}
 use Rattle.stim_lexer.specs.declared.said.Said.{Said}
 use Rattle.stim_lexer.specs.declared.said.Said.TheVariants as said

@@ -20,6 +20,10 @@ pub fn is_blank(byte: u8) -> bool
 fn ends_name(byte: u8) -> bool
     ensures { result ≡ ends_name byte }
 {
+    // Most bytes of a name stand between those that end one, and are told by this test alone.
+    if (b')'..=b'Z').contains(&byte) {
+        return false;
+    }
     is_blank(byte) || byte == b'[' || byte == b'(' || byte == b'{' || byte == b'}' || byte == b'#'
 }
 

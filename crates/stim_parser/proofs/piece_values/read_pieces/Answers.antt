@@ -1,16 +1,15 @@
-use Rattle.std.proofs.Common.{ap, sym, refl, ◌∙◌}
+use Rattle.std.proofs.Common.{ap, sym, ◌∙◌}
 use Rattle.stim_parser.specs.Pieces.{pieces_of}
 use Rattle.stim_parser.specs.Targets.{each_of}
 use Rattle.stim_parser.proofs.PieceValueLemmas.{with_front, with_front-more, with_front-ends, with_front-done, with_front-none}
 use Rattle.stim_parser.proofs.piece_values.read_pieces.Goals as goal
 
 pub loop-piece-init : goal.loop-piece-init
-loop-piece-init g c =
-    (
-      ap (λ front. with_front front (each_of g.V.PieceValue.written (pieces_of c.args.text.now))) c.clear.ensures.targets
+loop-piece-init g c = (
+  ap (λ front. with_front front (each_of g.V.PieceValue.written (pieces_of c.args.text.now))) c.clear.ensures.targets
       ∙ with_front-none (each_of g.V.PieceValue.written (pieces_of c.args.text.now)),
-      c.clear.ensures.others,
-    )
+  c.clear.ensures.others,
+)
 
 pub returns-in_default-of_piece-clause-read : goal.returns-in_default-of_piece-clause-read
 returns-in_default-of_piece-clause-read g c =
@@ -18,13 +17,12 @@ returns-in_default-of_piece-clause-read g c =
     ∙ with_front-ends g.V.PieceValue.written (g.L.LineTargets.targets c.loop-piece.values) _ _ _ c.in-Some.ensures.pieces (sym c.of_piece.ensures ∙ c.in_default-of_piece.is)
 
 pub loop-piece-preserved : goal.loop-piece-preserved
-loop-piece-preserved g c =
-    (
-      rw c.in_ok-push.ensures.targets
+loop-piece-preserved g c = (
+  rw c.in_ok-push.ensures.targets
       (sym (with_front-more g.V.PieceValue.written (g.L.LineTargets.targets c.loop-piece.values) _ _ _ c.in-Some-of_piece.value c.in-Some.ensures.pieces (sym c.in-Some-of_piece.is ∙ c.of_piece.ensures))
       ∙ c.loop-piece.invariant.0),
-      c.in_ok-push.ensures.others ∙ c.loop-piece.invariant.1,
-    )
+  c.in_ok-push.ensures.others ∙ c.loop-piece.invariant.1,
+)
 
 pub returns-clause-read : goal.returns-clause-read
 returns-clause-read g c =

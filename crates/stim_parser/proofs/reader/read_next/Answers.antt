@@ -1,9 +1,8 @@
 -- What was read before the line stays as it was while the targets of the line are read behind it.
-use Rattle.std.proofs.Common.{◌≡◌, ℕ, List, length, ap, subst, sym, ◌∙◌}
+use Rattle.std.proofs.Common.{ℕ, List, length, ap, subst, sym, ◌∙◌}
 use Rattle.std.specs.Prelude.{⊤}
 use Rattle.stim_lexer.specs.Lexing.{cut_in}
 use Rattle.stim_lexer.specs.Instructions.{Instruction}
-use Rattle.stim_lexer.specs.Marked.{Marked}
 use Rattle.stim_lexer.specs.Said.{OpensFew}
 use Rattle.stim_lexer.specs.Unfinished.{Unfinished}
 use Rattle.stim_lexer.proofs.SaidLemmas.{opens_few}

@@ -1,10 +1,10 @@
-use Rattle.std.proofs.Common.{◌≡◌, ◌≤◌, map, length, subst, sym, ap, ◌∙◌, arith}
+use Rattle.std.proofs.Common.{◌≤◌, map, length, subst, sym, ap, ◌∙◌, arith}
 use Rattle.std.specs.List.{slice_split}
 use Rattle.std.proofs.lemmas.Bool.{eqb-true}
 use Rattle.std.proofs.lemmas.List.{nil_from_length}
 use Rattle.stim_parser.specs.Arguments.{is_comma, trimmed}
 use Rattle.stim_parser.specs.private.ShortNumbers.{AreShort}
-use Rattle.stim_parser.proofs.ShortNumberLemmas.{arguments-none, arguments-some, cuts-first, cuts-last, short-first, short-last, short-more}
+use Rattle.stim_parser.proofs.ShortNumberLemmas.{arguments-none, arguments-some, cuts-first, cuts-last, short-last, short-more}
 use Rattle.stim_parser.proofs.short_numbers.are_short.Goals as goal
 use Rattle.stim_parser.proofs.short_numbers.are_short.Goals.{Then-is_empty}
 
