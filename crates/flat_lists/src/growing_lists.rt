@@ -22,7 +22,7 @@ impl<T: Copy, A: Allocator + Copy> Model for GrowingLists<T, A> {
 
     ghost view = { λ g. record { lists = cut 0 g.ends.items (take g.start g.items.items); next = drop g.start g.items.items } };
 
-    ghost invariant = { λ g. AreEnds 0 g.ends.items g.start × g.start ≤ length g.items.items };
+    ghost invariant = { λ g. (AreEnds 0 g.ends.items g.start) × (g.start ≤ length g.items.items) };
 }
 
 // Written out, so that it is a call in the proof of each function that owns lists.

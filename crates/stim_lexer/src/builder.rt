@@ -1,3 +1,4 @@
+//! Texts of lines and blocks while they are read, line by line.
 ghost use Rattle.std.specs.Prelude.{◌≡◌, ◌∷◌, ◌++◌, ℕ, List, [], Some, length, IfOk, IfErr, OnOk};
 ghost use Rattle.stim_lexer.specs.Kept.{item_kept, mark_kept};
 ghost use Rattle.stim_lexer.specs.Marked.{but_targets, line_marks, nothing_begun};

@@ -30,6 +30,7 @@ pub trait LineTargets<T: Copy> {
 impl<T: Copy, A: Allocator> LineTargets<T> for Vec<T, A> {
     ghost targets = { λ v. v.items };
 
+    // There is nothing else.
     ghost Others = { ℕ };
 
     ghost others = { λ v. 0 };
