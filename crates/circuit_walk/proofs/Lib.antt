@@ -19,6 +19,7 @@ pub mod MovedLists
 pub mod NamedFaults
 pub mod NamedSteps
 pub mod NumberLemmas
+pub mod PassLemmas
 pub mod PlaceCounts
 pub mod ProductLoops
 pub mod ProductPlaces

@@ -24,17 +24,11 @@ use Rattle.circuit_walk.specs.private.Courses.{IsCourse}
 use Rattle.circuit_walk.specs.private.Held.{Holds}
 use Rattle.circuit_walk.specs.private.InstructionSteps.{AreStepsOf, IsAt}
 use Rattle.circuit_walk.specs.Makes.{makes_faults, makes_records, one_if}
-use Rattle.circuit_walk.specs.private.Walks.{AreCountsAt, IsBetween, IsInside, is_step_maker, state_after, state_at, steps_of}
+use Rattle.circuit_walk.specs.private.Walks.{AreCountsAt, IsBetween, IsInside, IsReady, is_step_maker, state_after, state_at, steps_of}
 use Rattle.circuit_walk.proofs.CountLemmas.{new_faults-counted, new_records-counted}
 use Rattle.circuit_walk.proofs.CourseLemmas.{AllOf, all_steps, makers_fit, makers_of, near_one, one_fits, steps_behind}
 use Rattle.circuit_walk.proofs.EndLemmas.{ends}
 use Rattle.circuit_walk.proofs.MeaningLemmas.{state_after-append}
-
--- what comes before a cursor is what came before a place
-pub record IsReady (n : ℕ) (before : List Instruction) (c : Counts) (place : ℕ) : Type 0 where
-  pub records : c.records ≡ (state_after n at_start before).records
-  pub faults : c.faults ≡ (state_after n at_start before).faults
-  pub place_is : place ≡ length (steps_of n before)
 
 pub of_between : (n : ℕ) (items : List (Item Instruction)) (cursor : Cursor) (s : InstructionSteps) (c : Counts) (place : ℕ) → IsBetween n items cursor s c place → IsReady n (before_of is_step_maker items cursor) c place
 of_between n items cursor s c place h = record { records = h.records; faults = h.faults; place_is = h.place_is }

@@ -18,7 +18,7 @@ use Rattle.circuit_walk.specs.Before.{Before}
 use Rattle.circuit_walk.specs.Meaning.{new_steps}
 use Rattle.circuit_walk.specs.Programs.{KeptProgram}
 use Rattle.circuit_walk.specs.StepsMade.{operation_made}
-use Rattle.circuit_walk.specs.Walks.{ArePassed, faults_before, is_fault, records_before}
+use Rattle.circuit_walk.specs.Walks.{AreFaultsFrom, ArePassed, faults_before, is_fault, records_before}
 use Rattle.circuit_walk.specs.private.Courses.{IsCourse}
 use Rattle.circuit_walk.specs.private.InstructionSteps.{IsAt, end_of}
 use Rattle.circuit_walk.specs.Makes.{makes_errors}
@@ -165,6 +165,12 @@ pub room : {A : Type 0} (program : KeptProgram) (c : Course A) → IsCourse prog
 room program c course e some =
     let last = slice_get_within program.listing.steps (e.base + (c.here.end - 1)) _ (e.fault_at (c.here.end - 1) (omega (arith, some))) in
     (omega (arith, last, some, course.held.totals_are.steps, ap (λ l. length l.steps) course.held.listing), (counts_few _ _ _ course.counted).2)
+
+-- the faults of the instruction that are ahead
+pub numbered : {A : Type 0} (program : KeptProgram) (c : Course A) → (e : InError program c) → (count : ℕ) → c.here.at + count ≤ c.here.end → AreFaultsFrom program.listing.steps c.steps c.counts.faults count
+numbered program c e count le = λ j lt.
+    let here : c.steps + j ≡ e.base + (c.here.at + j) = omega (arith, e.place_is) in
+    ap (slice_get program.listing.steps) here ∙ e.fault_at (c.here.at + j) (omega (arith, lt, le)) ∙ ap (λ f. Some (Fault f)) (omega (arith, e.number_is))
 
 -- the fault right after the place, and the one right before it
 pub fault_here : {A : Type 0} (program : KeptProgram) (c : Course A) → (e : InError program c) → c.here.at < c.here.end → slice_get program.listing.steps c.steps ≡ Some (Fault (e.first + c.here.at))

@@ -19,12 +19,13 @@ use Rattle.circuit_walk.specs.Steps.{listed}
 use Rattle.circuit_walk.specs.declared.step.Step.{Step}
 use Rattle.circuit_walk.specs.private.Courses.{IsCourse}
 use Rattle.circuit_walk.specs.private.Held.{Holds}
-use Rattle.circuit_walk.specs.private.InstructionSteps.{AreCounts, AreStepsOf, Stands, counts_behind, has_argument}
+use Rattle.circuit_walk.specs.private.InstructionSteps.{AreCounts, AreStepsOf, IsAt, Stands, counts_behind, has_argument}
 use Rattle.circuit_walk.specs.Makes.{makes_faults, makes_records, one_if}
 use Rattle.circuit_walk.specs.private.Walks.{AreCountsAt, IsInside, is_step_maker, state_at, steps_of}
 use Rattle.circuit_walk.proofs.CountLemmas.{MakesAs, each_at, each_new}
 use Rattle.circuit_walk.proofs.CourseLemmas.{all_steps, makers_of, step_inside}
 use Rattle.circuit_walk.proofs.EndLemmas.{ends}
+use Rattle.circuit_walk.proofs.PlaceCounts.{counted_behind}
 
 -- ---- the instruction
 
@@ -185,3 +186,31 @@ counts_fit program c course facing few =
     let fewer = counts_few program.listing.steps c.steps c.counts course.counted in
     let total : c.text.totals.steps ≡ length program.listing.steps = course.held.totals_are.steps ∙ sym (ap (λ l. length l.steps) course.held.listing) in
     (omega (arith, there, fewer.0, total, few), omega (arith, there, fewer.1, total, few), omega (arith, there, fewer.2, total, few), omega (arith, there, total, few))
+
+-- behind a step the course is at the next place of the same instruction
+pub over_step : {A : Type 0} (program : KeptProgram) (old : Course A) (at : ℕ) (counts : Counts) → IsCourse program old → (facing : old.here.at ≢ old.here.end) → (step : Step)
+    → ((n : ℕ) (i : Instruction) (b : Before) (k : ℕ) → Stands i b old.here old.counts k → slice_get (new_steps n b i) k ≡ Some (listed n step))
+    → ((k : ℕ) (i : Instruction) → AreStepsOf i old.here → IsAt i.operation i.targets old.here.at k → IsAt i.operation i.targets at (k + 1))
+    → counts ≡ counts_behind old.here.operation old.here.flips old.counts
+    → IsCourse program (record old { here = record old.here { at = at }; counts = counts; steps = old.steps + 1 })
+over_step program old at counts course facing step is place counts_are =
+    let taken = takes program old course facing step is in
+    let h = taken.inside in
+    let steps = h.stands.steps in
+    goes_on program old _ course (is_inside_before program old course facing) refl refl
+    (record {
+      instruction = h.instruction;
+      rest = h.rest;
+      k = h.k + 1;
+      left = h.left;
+      faced = h.faced;
+      stands = record {
+        steps = record { operation = steps.operation; targets = steps.targets; flips = steps.flips; end = steps.end; fits = steps.fits };
+        place = place h.k h.instruction steps h.stands.place;
+        counts = subst (AreCounts _ h.instruction.operation old.here.flips (h.k + 1)) (sym counts_are) (counts_next _ h.instruction old.here old.counts h.k steps h.stands.counts);
+        near = h.stands.near;
+      };
+      marked = h.marked;
+      place_is = omega (arith, h.place_is);
+    })
+    (subst (AreCountsAt program.listing.steps (old.steps + 1)) (sym counts_are) (counted_behind program.listing.steps old.steps _ old.here.operation old.here.flips old.counts taken.listed_is taken.makes course.counted))

@@ -27,6 +27,10 @@ pub record PassesBack (test : ℕ → Bool) (from old new : ℕ) : Type 0 where
 abbrev pub ArePassed : List ListedStep → ℕ → ℕ → Type 0
 ArePassed steps place count = (i : ℕ) → i < count → slice_get steps (place + i) ≡ Some (Fault (faults_before steps place + i))
 
+-- so many steps from a place on are faults, of which the first has this number
+abbrev pub AreFaultsFrom : List ListedStep → ℕ → ℕ → ℕ → Type 0
+AreFaultsFrom steps place first count = (i : ℕ) → i < count → slice_get steps (place + i) ≡ Some (Fault (first + i))
+
 -- at most so many are, and none only where no fault stands there
 pub record PassesOver (steps : List ListedStep) (place most count : ℕ) : Type 0 where
   pub few : count ≤ most

@@ -84,21 +84,6 @@ impl<'a, 'p, A: Allocator + Copy> Course<'a, 'p, A> {
         }
     }
 
-    /// The steps of the instruction of an item, before the first.
-    #[inline(always)]
-    fn steps_at(&self, i: usize) -> InstructionSteps<'a>
-        requires { (x : Instruction) × (slice_get self.now.text.items.now.items i ≡ Some (InstructionLine x)) × Fits x }
-        ensures steps { (x : Instruction) → slice_get self.now.text.items.now.items i ≡ Some (InstructionLine x)
-            → AreStepsOf x result }
-        ensures at { result.at ≡ 0 }
-        ensures chance { result.chance ≡ slice_index_or self.now.text.items.now.marks i 0 }
-    {
-        match self.text.items.get(i) {
-            Item::InstructionLine(instruction) => InstructionSteps::new(instruction),
-            _ => unreachable!(),
-        }
-    }
-
     /// Goes behind the instruction that the place is inside, if it is inside one.
     #[inline(always)]
     fn leave(&mut self)
@@ -134,7 +119,7 @@ impl<'a, 'p, A: Allocator + Copy> Course<'a, 'p, A> {
             .face::<StepMakers, Operation, TargetWord, A>(self.text.items)
         {
             Some(i) => {
-                self.here = self.steps_at(i);
+                self.here = self.text.steps_at(i);
                 self.inside = true;
                 true
             }
@@ -157,7 +142,7 @@ impl<'a, 'p, A: Allocator + Copy> Course<'a, 'p, A> {
             .previous::<StepMakers, Operation, TargetWord, A>(self.text.items)
         {
             Some(i) => {
-                let mut here = self.steps_at(i);
+                let mut here = self.text.steps_at(i);
                 here.at = here.end;
                 self.here = here;
                 self.inside = true;

@@ -1,13 +1,17 @@
 //! Programs: circuits as their text writes them, and what they take as a whole.
 
-ghost use Rattle.std.specs.Prelude.{◌≡◌, ◌+◌, ◌<◌, ◌^◌, Some, length, slice_get};
+ghost use Rattle.std.specs.Prelude.{◌≡◌, ◌+◌, ◌<◌, ◌^◌, Some, length, slice_get, slice_index_or};
 ghost use Rattle.circuit_walk.specs.Made.{IsAcceptedAs, PartsFit, kept_program};
 ghost use Rattle.circuit_walk.specs.private.Held.{Holds};
 ghost use Rattle.step_model.specs.Chances.{chance_at};
 ghost use Rattle.step_model.specs.WellFormed.{IsWellFormed};
 ghost use Rattle.stim_lexer.specs.Kept.{item_in};
-ghost use Rattle.stim_lexer.specs.Trees.{items_of};
+ghost use Rattle.circuit_walk.specs.private.InstructionSteps.{AreStepsOf};
+ghost use Rattle.stim_lexer.specs.Trees.{InstructionLine, items_of};
+ghost use Rattle.stim_parser.specs.Circuits.{Fits};
+ghost use Rattle.stim_parser.specs.Verdicts.{Instruction};
 
+use crate::instruction_steps::InstructionSteps;
 use crate::step::Counts;
 use std::alloc::Allocator;
 use std::marker::Model;
@@ -85,6 +89,21 @@ impl<'a, 'p, A: Allocator + Copy> Text<'a, 'p, A> {
     {
         // The proof takes the range from a read.
         let _steps = self.totals.steps;
+    }
+
+    /// The steps of the instruction of an item, before the first.
+    #[inline(always)]
+    pub(crate) fn steps_at(&self, i: usize) -> InstructionSteps<'a>
+        requires { (x : Instruction) × (slice_get self.now.items.now.items i ≡ Some (InstructionLine x)) × Fits x }
+        ensures steps { (x : Instruction) → slice_get self.now.items.now.items i ≡ Some (InstructionLine x)
+            → AreStepsOf x result }
+        ensures at { result.at ≡ 0 }
+        ensures chance { result.chance ≡ slice_index_or self.now.items.now.marks i 0 }
+    {
+        match self.items.get(i) {
+            Item::InstructionLine(instruction) => InstructionSteps::new(instruction),
+            _ => unreachable!(),
+        }
     }
 }
 

@@ -14,7 +14,8 @@ use std::alloc::Allocator;
 use stim_lexer::Items;
 
 /// Whether a chosen instruction stands at a place.
-fn is_chosen_at<C: Choice<O>, O: Copy, T: Copy, A: Allocator + Copy>(
+#[inline(always)]
+pub(crate) fn is_chosen_at<C: Choice<O>, O: Copy, T: Copy, A: Allocator + Copy>(
     items: &Items<'_, O, T, A>,
     i: usize,
 ) -> bool

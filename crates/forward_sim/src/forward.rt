@@ -3,10 +3,10 @@ ghost use Rattle.step_model.specs.Faults.{memory_fault};
 ghost use Rattle.step_model.specs.Runs.{records_of};
 
 use crate::machine::Machine;
-use crate::quiet::pass_quiet;
+use crate::quiet::quiet_count;
 use crate::records::Records;
 use crate::steps::take_step;
-use circuit_walk::{Program, Walk};
+use circuit_walk::{Program, Step, StepTaker, take_all};
 use std::alloc::{AllocError, Allocator};
 use step_model::Fault;
 
@@ -29,6 +29,33 @@ pub fn run<A: Allocator + Copy>(
     Ok(take_steps(alloc, program, faults, coins)?)
 }
 
+/// A run that takes the steps of a program: the faults that happen, and all its coins.
+#[derive(Drop)]
+struct Run<'r, 'c, A: Allocator + Copy> {
+    machine: Machine<'c, A>,
+    faults: &'r [bool],
+    coins: &'c [bool],
+}
+
+impl<'r, 'c, A: Allocator + Copy> StepTaker<A> for Run<'r, 'c, A> {
+    ghost use Rattle.forward_sim.specs.private.Along.{GoesAlong};
+    ghost use Rattle.forward_sim.specs.private.Machines.{qubit_count, run_of};
+
+    ghost stands = { λ program k run. GoesAlong program.listing run.faults.now run.coins.now k (qubit_count run.machine) run.machine.room (run_of run.machine) };
+
+    #[inline(always)]
+    fn take(&mut self, program: &Program<'_, A>, step: Step<'_>) {
+        program.well_formed();
+        take_step(&mut self.machine, program, self.faults, step);
+    }
+
+    #[inline(always)]
+    fn pass_faults(&mut self, program: &Program<'_, A>, first: u32, count: usize) -> usize {
+        program.well_formed();
+        quiet_count(self.faults, first, count)
+    }
+}
+
 // Takes all steps of the program.
 fn take_steps<A: Allocator + Copy>(
     alloc: A,
@@ -42,13 +69,12 @@ fn take_steps<A: Allocator + Copy>(
 {
     program.well_formed();
     let qubits = program.qubits() as usize;
-    let mut machine = Machine::start(alloc, qubits, program.record_count() as usize, coins)?;
-    let mut walk = Walk::start(program);
-    // no fault ahead with a lower number happens
-    let mut hit = 0;
-    while let Some(step) = walk.next_step() {
-        take_step(&mut machine, program, faults, step);
-        pass_quiet(&mut walk, faults, &mut hit, step);
-    }
-    Ok(machine.take_records(alloc))
+    let machine = Machine::start(alloc, qubits, program.record_count() as usize, coins)?;
+    let mut run = Run {
+        machine,
+        faults,
+        coins,
+    };
+    take_all(program, &mut run);
+    Ok(run.machine.take_records(alloc))
 }

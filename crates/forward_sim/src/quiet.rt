@@ -51,3 +51,21 @@ fn next_hit(faults: &[bool], from: usize) -> usize
     }
     usize::MAX
 }
+
+/// How many of so many faults, numbered from one on, don't happen before one that does.
+#[inline(always)]
+pub(crate) fn quiet_count(faults: &[bool], first: u32, count: usize) -> usize
+    ensures few { result ≤ count }
+    ensures none { NoneHappens faults.now first (first + result) }
+{
+    let start = (first as usize).min(faults.len());
+    let most = count.min(faults.len() - start);
+    let mut passed = 0;
+    while passed < most {
+        if faults[start + passed] {
+            return passed;
+        }
+        passed += 1;
+    }
+    count
+}

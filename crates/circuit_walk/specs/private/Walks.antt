@@ -51,6 +51,12 @@ pub record AreCountsAt (steps : List ListedStep) (place : ℕ) (c : Counts) : Ty
 abbrev pub state_at : ℕ → List (Item Instruction) → Cursor → Before
 state_at n items cursor = state_after n at_start (before_of is_step_maker items cursor)
 
+-- what came before a place is what these instructions make
+pub record IsReady (n : ℕ) (before : List Instruction) (c : Counts) (place : ℕ) : Type 0 where
+  pub records : c.records ≡ (state_after n at_start before).records
+  pub faults : c.faults ≡ (state_after n at_start before).faults
+  pub place_is : place ≡ length (steps_of n before)
+
 -- a place inside the instruction that a cursor is before: behind the first k of its steps, with the number of its probability
 -- among these texts
 pub record IsInside (n : ℕ) (chances : List ChanceText) (items : List (Item Instruction)) (cursor : Cursor) (s : InstructionSteps) (c : Counts) (place : ℕ) : Type 0 where

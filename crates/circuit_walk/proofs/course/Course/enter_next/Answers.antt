@@ -3,8 +3,8 @@ use Rattle.std.proofs.Common.{◌≡◌, Some, refl, sym, ◌∙◌, subst}
 use Rattle.std.specs.Prelude.{slice_get}
 use Rattle.cursor.specs.Moves.{Faces}
 use Rattle.stim_lexer.specs.Trees.{InstructionLine}
-use Rattle.circuit_walk.specs.private.Walks.{is_step_maker}
-use Rattle.circuit_walk.proofs.MoveLemmas.{IsReady, all_behind, goes_inside, into_first, mark_of, ready_between, sound_next}
+use Rattle.circuit_walk.specs.private.Walks.{is_step_maker, IsReady}
+use Rattle.circuit_walk.proofs.MoveLemmas.{all_behind, goes_inside, into_first, mark_of, ready_between, sound_next}
 use Rattle.circuit_walk.proofs.course.Course.enter_next.Goals as goal
 
 pub steps_at-self-requires : goal.steps_at-self-requires

@@ -5,8 +5,8 @@ use Rattle.cursor.specs.Moves.{Faces}
 use Rattle.stim_lexer.specs.Trees.{InstructionLine}
 use Rattle.cursor.specs.Places.{before_of}
 use Rattle.circuit_walk.specs.Meaning.{made_of}
-use Rattle.circuit_walk.specs.private.Walks.{is_step_maker, steps_of}
-use Rattle.circuit_walk.proofs.MoveLemmas.{IsReady, goes_between, goes_inside, into_last, mark_of, ready_before, sound_next}
+use Rattle.circuit_walk.specs.private.Walks.{is_step_maker, steps_of, IsReady}
+use Rattle.circuit_walk.proofs.MoveLemmas.{goes_between, goes_inside, into_last, mark_of, ready_before, sound_next}
 use Rattle.circuit_walk.proofs.course.Course.enter_previous.Goals as goal
 
 pub steps_at-here-requires : goal.steps_at-here-requires

@@ -1,6 +1,7 @@
 -- The instruction that the place is inside is gone over.
 use Rattle.std.proofs.Common.{Some, refl, sym, subst}
-use Rattle.circuit_walk.proofs.MoveLemmas.{IsReady, behind_last, goes_between, over_first}
+use Rattle.circuit_walk.specs.private.Walks.{IsReady}
+use Rattle.circuit_walk.proofs.MoveLemmas.{behind_last, goes_between, over_first}
 use Rattle.circuit_walk.proofs.course.Course.leave.Goals as goal
 
 pub pass-requires-clause-faces : goal.pass-requires-clause-faces

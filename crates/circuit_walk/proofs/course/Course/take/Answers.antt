@@ -1,10 +1,7 @@
 -- The step of the instruction that the course is inside; its counts are those behind it.
-use Rattle.std.proofs.Common.{◌+◌, sym, subst, refl, arith}
-use Rattle.circuit_walk.specs.private.InstructionSteps.{AreCounts}
-use Rattle.circuit_walk.specs.private.Walks.{AreCountsAt}
+use Rattle.std.proofs.Common.{arith}
 use Rattle.circuit_walk.proofs.NamedSteps.{faced_named}
-use Rattle.circuit_walk.proofs.PlaceCounts.{counted_behind}
-use Rattle.circuit_walk.proofs.TakeLemmas.{below_end, counts_fit, counts_next, goes_on, inside_before, is_inside_before, takes}
+use Rattle.circuit_walk.proofs.TakeLemmas.{below_end, counts_fit, inside_before, over_step, takes}
 use Rattle.circuit_walk.proofs.course.Course.take.Goals as goal
 
 pub next-taken-requires-clause-stands : goal.next-taken-requires-clause-stands
@@ -37,27 +34,7 @@ returns-clause-step g c program course =
 
 pub returns-clause-course : goal.returns-clause-course
 returns-clause-course g c program course =
-    let old = c.args.self.now in
-    let taken = takes program old course c.requires.facing _ (λ n i b k st. c.next-taken.ensures.step n k i b st) in
-    let h = taken.inside in
-    let steps = h.stands.steps in
-    goes_on program old _ course (is_inside_before program old course c.requires.facing) refl refl
-    (record {
-      instruction = h.instruction;
-      rest = h.rest;
-      k = h.k + 1;
-      left = h.left;
-      faced = h.faced;
-      stands = record {
-        steps = record { operation = steps.operation; targets = steps.targets; flips = steps.flips; end = steps.end; fits = steps.fits };
-        place = c.next-taken.ensures.place h.k h.instruction steps h.stands.place;
-        counts = subst (AreCounts _ h.instruction.operation old.here.flips (h.k + 1)) (sym c.next-taken.ensures.counts) (counts_next _ h.instruction old.here old.counts h.k steps h.stands.counts);
-        near = h.stands.near;
-      };
-      marked = h.marked;
-      place_is = omega (arith, h.place_is);
-    })
-    (subst (AreCountsAt program.listing.steps (old.steps + 1)) (sym c.next-taken.ensures.counts) (counted_behind program.listing.steps old.steps _ old.here.operation old.here.flips old.counts taken.listed_is taken.makes course.counted))
+    over_step program c.args.self.now _ _ course c.requires.facing _ (λ n i b k st. c.next-taken.ensures.step n k i b st) c.next-taken.ensures.place c.next-taken.ensures.counts
 
 pub returns-clause-named : goal.returns-clause-named
 returns-clause-named g c program course =

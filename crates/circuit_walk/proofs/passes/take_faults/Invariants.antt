@@ -1,0 +1,15 @@
+use Rattle.std.proofs.Common.{◌≡◌, ◌-◌, true, length}
+use Rattle.circuit_walk.specs.Makes.{makes_errors}
+use Rattle.circuit_walk.specs.private.Courses.{IsCourse, course_at}
+use Rattle.circuit_walk.proofs.passes.take_faults.Given as goal
+
+abbrev pub invariant-loop-inside : goal.invariant-loop-inside
+invariant-loop-inside g l =
+    record {
+      course : IsCourse l.program (course_at l.text l.cursor l.inside);
+      stands : g.T.StepTaker.stands l.program l.inside.steps l.taker;
+      errors : makes_errors l.inside.here.operation ≡ true;
+    }
+
+abbrev pub decreases-loop-inside : goal.decreases-loop-inside
+decreases-loop-inside g l = length l.program.listing.steps - l.inside.steps
