@@ -25,8 +25,8 @@ pub(crate) struct Inside<'c> {
 
 /// Has a taker take all steps of a program. It takes no memory of its own.
 pub fn take_all<T: StepTaker<A>, A: Allocator + Copy>(program: &Program<'_, A>, taker: &mut T)
-    requires { T.stands program.now 0 taker.old }
-    ensures { T.stands program.now (length program.now.listing.steps) taker.new }
+    requires { T.stands program.now taker.old 0 taker.old }
+    ensures { T.stands program.now taker.old (length program.now.listing.steps) taker.new }
 {
     let text = program.text();
     let mut cursor = Cursor::start::<StepMakers, Operation, TargetWord, A>(text.items);
@@ -60,9 +60,10 @@ fn take_instruction<T: StepTaker<A>, A: Allocator + Copy>(
     inside: &mut Inside<'_>,
 )
     requires course { IsCourse program.now (course_at text cursor.now inside.old) }
-    requires stands { T.stands program.now inside.old.steps taker.old }
+    requires stands { (begun : T) × T.stands program.now begun inside.old.steps taker.old }
     ensures course { IsCourse program.now (course_at text.entry cursor.now inside.new) }
-    ensures stands { T.stands program.now inside.new.steps taker.new }
+    ensures stands { (begun : T) → T.stands program.now begun inside.old.steps taker.old
+        → T.stands program.now begun inside.new.steps taker.new }
     ensures done { inside.new.here.at ≡ inside.new.here.end }
 {
     match inside.here.operation {
@@ -100,9 +101,10 @@ fn take_steps<T: StepTaker<A>, A: Allocator + Copy>(
     inside: &mut Inside<'_>,
 )
     requires course { IsCourse program.now (course_at text cursor.now inside.old) }
-    requires stands { T.stands program.now inside.old.steps taker.old }
+    requires stands { (begun : T) × T.stands program.now begun inside.old.steps taker.old }
     ensures course { IsCourse program.now (course_at text.entry cursor.now inside.new) }
-    ensures stands { T.stands program.now inside.new.steps taker.new }
+    ensures stands { (begun : T) → T.stands program.now begun inside.old.steps taker.old
+        → T.stands program.now begun inside.new.steps taker.new }
     ensures done { inside.new.here.at ≡ inside.new.here.end }
 {
     while inside.here.at != inside.here.end {
@@ -120,10 +122,11 @@ fn take_faults<T: StepTaker<A>, A: Allocator + Copy>(
     inside: &mut Inside<'_>,
 )
     requires course { IsCourse program.now (course_at text cursor.now inside.old) }
-    requires stands { T.stands program.now inside.old.steps taker.old }
+    requires stands { (begun : T) × T.stands program.now begun inside.old.steps taker.old }
     requires errors { makes_errors inside.old.here.operation ≡ true }
     ensures course { IsCourse program.now (course_at text.entry cursor.now inside.new) }
-    ensures stands { T.stands program.now inside.new.steps taker.new }
+    ensures stands { (begun : T) → T.stands program.now begun inside.old.steps taker.old
+        → T.stands program.now begun inside.new.steps taker.new }
     ensures done { inside.new.here.at ≡ inside.new.here.end }
 {
     while inside.here.at != inside.here.end {
@@ -144,10 +147,11 @@ fn take_step<T: StepTaker<A>, A: Allocator + Copy>(
     inside: &mut Inside<'_>,
 )
     requires course { IsCourse program.now (course_at text cursor.now inside.old) }
-    requires stands { T.stands program.now inside.old.steps taker.old }
+    requires stands { (begun : T) × T.stands program.now begun inside.old.steps taker.old }
     requires facing { inside.old.here.at ≢ inside.old.here.end }
     ensures course { IsCourse program.now (course_at text.entry cursor.now inside.new) }
-    ensures stands { T.stands program.now inside.new.steps taker.new }
+    ensures stands { (begun : T) → T.stands program.now begun inside.old.steps taker.old
+        → T.stands program.now begun inside.new.steps taker.new }
     ensures on { inside.new.steps ≡ inside.old.steps + 1 }
     ensures same { inside.new.here.operation ≡ inside.old.here.operation }
 {
@@ -169,11 +173,12 @@ fn pass_faults<T: StepTaker<A>, A: Allocator + Copy>(
     inside: &mut Inside<'_>,
 )
     requires course { IsCourse program.now (course_at text cursor.now inside.old) }
-    requires stands { T.stands program.now inside.old.steps taker.old }
+    requires stands { (begun : T) × T.stands program.now begun inside.old.steps taker.old }
     requires facing { inside.old.here.at ≢ inside.old.here.end }
     requires errors { makes_errors inside.old.here.operation ≡ true }
     ensures course { IsCourse program.now (course_at text.entry cursor.now inside.new) }
-    ensures stands { T.stands program.now inside.new.steps taker.new }
+    ensures stands { (begun : T) → T.stands program.now begun inside.old.steps taker.old
+        → T.stands program.now begun inside.new.steps taker.new }
     ensures on { inside.new.steps + inside.old.here.at ≡ inside.old.steps + inside.new.here.at }
     ensures further { inside.old.here.at ≤ inside.new.here.at }
     ensures same { inside.new.here.operation ≡ inside.old.here.operation }

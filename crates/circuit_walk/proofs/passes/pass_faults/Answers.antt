@@ -21,7 +21,7 @@ pub pass_faults-passed-requires : goal.pass_faults-passed-requires
 pass_faults-passed-requires g c =
     let e = error g (goal.at.pass_faults-passed-requires g c).After-fits in
     let old = course_at c.args.text c.args.cursor.now c.args.inside.now in
-    record { next = (old.steps, c.requires.stands, numbered c.args.program.now old e (old.here.end - old.here.at) (omega (arith, e.within))) }
+    record { next = (c.requires.stands.0, old.steps, c.requires.stands.1, numbered c.args.program.now old e (old.here.end - old.here.at) (omega (arith, e.within))) }
 
 pub overflow_cast-inside : goal.overflow_cast-inside
 overflow_cast-inside g c =
@@ -48,7 +48,7 @@ returns-clause-course g c =
     (omega (arith, e.within, c.pass_faults-passed.ensures.few)) (omega (arith, e.number_is)) (omega (arith, e.place_is))
 
 pub returns-clause-stands : goal.returns-clause-stands
-returns-clause-stands g c =
+returns-clause-stands g c begun stands =
     let old = course_at c.args.text c.args.cursor.now c.args.inside.now in
     let e = error g (goal.at.returns-clause-stands g c).After-fits in
-    c.pass_faults-passed.ensures.passed old.steps c.requires.stands (numbered c.args.program.now old e (old.here.end - old.here.at) (omega (arith, e.within)))
+    c.pass_faults-passed.ensures.passed begun old.steps stands (numbered c.args.program.now old e (old.here.end - old.here.at) (omega (arith, e.within)))

@@ -39,11 +39,14 @@ loop-i-preserved g c =
       passing =
           leaves c.args.program.now c.text-text.result c.face.new.self c.pass.new.self c.take_instruction.new.inside c.take_instruction.ensures.course c.take_instruction.ensures.done
           c.pass.ensures.place c.pass.ensures.over;
-      stands = c.take_instruction.ensures.stands;
+      stands = c.take_instruction.ensures.stands c.args.taker.now c.loop-i.invariant.stands;
     }
 
 pub returns : goal.returns
 returns g c =
     let e = c.in_default.ensures in
     let end = ends_passing c.args.program.now c.text-text.result c.loop-i.cursor c.face.new.self c.loop-i.counts c.loop-i.steps c.loop-i.invariant.passing e.place e.same e.next in
-    subst (λ k. g.T.StepTaker.stands c.args.program.now k c.loop-i.taker) end c.loop-i.invariant.stands
+    subst (λ k. g.T.StepTaker.stands c.args.program.now c.args.taker.now k c.loop-i.taker) end c.loop-i.invariant.stands
+
+pub take_instruction-requires-clause-stands : goal.take_instruction-requires-clause-stands
+take_instruction-requires-clause-stands g c = (c.args.taker.now, c.loop-i.invariant.stands)

@@ -8,7 +8,7 @@ abbrev pub invariant-loop-i : goal.invariant-loop-i
 invariant-loop-i g l =
     record {
       passing : IsPassing l.program l.text l.cursor l.counts l.steps;
-      stands : g.T.StepTaker.stands l.program l.steps l.taker;
+      stands : g.T.StepTaker.stands l.program l.fn.taker l.steps l.taker;
     }
 
 abbrev pub decreases-loop-i : goal.decreases-loop-i

@@ -7,7 +7,7 @@ abbrev pub invariant-loop-inside : goal.invariant-loop-inside
 invariant-loop-inside g l =
     record {
       course : IsCourse l.program (course_at l.text l.cursor l.inside);
-      stands : g.T.StepTaker.stands l.program l.inside.steps l.taker;
+      stands : (begun : g.row.T.Denot) → g.T.StepTaker.stands l.program begun l.fn.inside.steps l.fn.taker → g.T.StepTaker.stands l.program begun l.inside.steps l.taker;
       errors : makes_errors l.inside.here.operation ≡ true;
     }
 

@@ -50,7 +50,7 @@ take-requires-clause-named g c =
     (c.next-taken.ensures.letters n h.k h.instruction _ h.stands)
 
 pub take-requires-clause-next : goal.take-requires-clause-next
-take-requires-clause-next g c = (c.args.inside.now.steps, c.requires.stands, step_here g (goal.at.take-requires-clause-next g c).After-next-taken)
+take-requires-clause-next g c = (c.requires.stands.0, c.args.inside.now.steps, c.requires.stands.1, step_here g (goal.at.take-requires-clause-next g c).After-next-taken)
 
 pub returns-clause-course : goal.returns-clause-course
 returns-clause-course g c =
@@ -58,4 +58,4 @@ returns-clause-course g c =
     (λ n i b k st. c.next-taken.ensures.step n k i b st) c.next-taken.ensures.place c.next-taken.ensures.counts
 
 pub returns-clause-stands : goal.returns-clause-stands
-returns-clause-stands g c = c.take.ensures c.args.inside.now.steps c.requires.stands (step_here g (goal.at.returns-clause-stands g c).After-next-taken)
+returns-clause-stands g c begun stands = c.take.ensures begun c.args.inside.now.steps stands (step_here g (goal.at.returns-clause-stands g c).After-next-taken)
