@@ -20,7 +20,6 @@ pub mod BoundWalks
 pub mod LaneLemmas
 pub mod Rotations
 pub mod PassedFaults
-pub mod QuietFaults
 pub mod SeatLemmas
 pub mod AllLaneLemmas
 pub mod SideLemmas

@@ -22,7 +22,7 @@ faults_before-later (step ∷ steps) (suc k) (suc m) h =
 
 -- what holds before a fault of some kind and then behind it, holds behind all that are passed, where all are of this kind
 module _ (holds kind : ℕ → Type 0) (steps : List ListedStep) (over : (k f : ℕ) → slice_get steps k ≡ Some (Fault f) → kind f → holds k → holds (k + 1)) where
-  behind_each : (count place number : ℕ) → ((i : ℕ) → i < count → slice_get steps (place + i) ≡ Some (Fault (number + i))) → ((f : ℕ) → number ≤ f → f < number + count → kind f) → holds place → holds (place + count)
+  pub behind_each : (count place number : ℕ) → ((i : ℕ) → i < count → slice_get steps (place + i) ≡ Some (Fault (number + i))) → ((f : ℕ) → number ≤ f → f < number + count → kind f) → holds place → holds (place + count)
   behind_each zero place number each all before = let same : place ≡ place + 0 = omega arith in subst holds same before
   behind_each (suc count) place number each all before =
       let first : place + 0 ≡ place = omega arith in

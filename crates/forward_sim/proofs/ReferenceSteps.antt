@@ -19,7 +19,8 @@ use Rattle.forward_sim.specs.private.Kept.{StepKeeps}
 use Rattle.forward_sim.specs.private.Machines.{Running, qubit_count, run_of, ended, ComesTo}
 use Rattle.forward_sim.specs.References.{IsEntry, AreEntries}
 use Rattle.forward_sim.specs.SameRuns.{HoldSame, IsSameRun}
-use Rattle.forward_sim.proofs.RunRecords.{MakesRest, all_fit, records_at_end, step_is_next}
+use Rattle.forward_sim.specs.private.Along.{KeepsRest, MakesRest}
+use Rattle.forward_sim.proofs.RunRecords.{all_fit, records_at_end, step_is_next}
 use Rattle.forward_sim.proofs.SameStates.{same-corrected, same-next}
 
 -- a collapse that has ended
@@ -116,11 +117,6 @@ zero_entries program (Collapse c r ∷ steps) (suc count) m [] h = h
 zero_entries program (Collapse c r ∷ steps) (suc count) m (entry ∷ replaced) h = (h.0, zero_entries program steps count (next program [] (Collapse c r) (with_coins [] m)) replaced h.1)
 zero_entries program (Fault f ∷ steps) count m replaced h = zero_entries program steps count (next program [] (Fault f) m) replaced h
 zero_entries program (Feedback w r ∷ steps) count m replaced h = zero_entries program steps count (next program [] (Feedback w r) m) replaced h
-
--- between two steps: what is kept of the steps that are left goes behind what is kept so far
-abbrev pub KeepsRest : Listing → ℕ → RunState → List (Option (List Term)) → Type 0
-KeepsRest program place m kept =
-    (rest : List (Option (List Term))) → AreEntries program (drop place program.steps) m rest → AreEntries program program.steps (start []) (kept ++ rest)
 
 pub keeps_at_start : (program : Listing) (m : RunState) (kept : List (Option (List Term))) → IsWellFormed program → IsSameRun program.qubits m (start []) → kept ≡ [] → KeepsRest program 0 m kept
 keeps_at_start program m kept well_formed same none rest h =

@@ -9,6 +9,7 @@ use Rattle.step_model.specs.Runs.{RunState, start, next, run_from, records_of}
 use Rattle.step_model.specs.WellFormed.{IsWellFormed, records_made, step_fits}
 use Rattle.step_model.proofs.StateIsGroup.{list_all-pass}
 use Rattle.forward_sim.specs.SameRuns.{IsSameRun}
+use Rattle.forward_sim.specs.private.Along.{MakesRest}
 use Rattle.forward_sim.proofs.SameStates.{same-run_from}
 
 pub length-next : (program : Listing) (faults : List Bool) (step : ListedStep) (m : RunState) → length (next program faults step m).records ≡ length m.records + length (step_records step)
@@ -30,11 +31,6 @@ length-records_of program faults coins well_formed =
     let made : length (records_made program.steps) ≡ program.records =
     ap length well_formed.records_in_order ∙ length-range_with_len 0 program.records in
     omega (arith, made, length-run_from program faults program.steps (start coins))
-
--- between two steps: the steps that are left, run from here, make the records of the whole run
-abbrev pub MakesRest : Listing → List Bool → List Bool → ℕ → RunState → Type 0
-MakesRest program faults coins place m =
-    (run_from program faults (drop place program.steps) m).records ≡ records_of program faults coins
 
 pub all_fit : (program : Listing) → IsWellFormed program → list_all (step_fits program) program.steps ≡ true
 all_fit program well_formed = list_all-pass (step_fits program) program.steps well_formed.steps_fit

@@ -7,3 +7,5 @@ pub mod LaneDraws
 pub mod AllLanes
 pub mod Sieves
 pub mod Quiet
+pub mod Along
+pub mod Takers

@@ -29,19 +29,17 @@ pub fn run<A: Allocator + Copy>(
     Ok(take_steps(alloc, program, faults, coins)?)
 }
 
-/// A run that takes the steps of a program: the faults that happen, and all its coins.
+/// A run that takes the steps of a program in which these faults happen.
 #[derive(Drop)]
-struct Run<'r, 'c, A: Allocator + Copy> {
+struct OneRun<'r, 'c, A: Allocator + Copy> {
     machine: Machine<'c, A>,
     faults: &'r [bool],
-    coins: &'c [bool],
 }
 
-impl<'r, 'c, A: Allocator + Copy> StepTaker<A> for Run<'r, 'c, A> {
-    ghost use Rattle.forward_sim.specs.private.Along.{GoesAlong};
-    ghost use Rattle.forward_sim.specs.private.Machines.{qubit_count, run_of};
+impl<'r, 'c, A: Allocator + Copy> StepTaker<A> for OneRun<'r, 'c, A> {
+    ghost use Rattle.forward_sim.specs.private.Takers.{IsRunning};
 
-    ghost stands = { λ program k run. GoesAlong program.listing run.faults.now run.coins.now k (qubit_count run.machine) run.machine.room (run_of run.machine) };
+    ghost stands = { λ program begun k run. IsRunning program.listing begun.faults.now begun.machine.coins k run.faults.now run.machine };
 
     #[inline(always)]
     fn take(&mut self, program: &Program<'_, A>, step: Step<'_>) {
@@ -70,11 +68,7 @@ fn take_steps<A: Allocator + Copy>(
     program.well_formed();
     let qubits = program.qubits() as usize;
     let machine = Machine::start(alloc, qubits, program.record_count() as usize, coins)?;
-    let mut run = Run {
-        machine,
-        faults,
-        coins,
-    };
+    let mut run = OneRun { machine, faults };
     take_all(program, &mut run);
     Ok(run.machine.take_records(alloc))
 }

@@ -10,11 +10,10 @@ ghost use Rattle.forward_sim.specs.private.Machines.{CanTake};
 ghost use Rattle.forward_sim.specs.SameRuns.{IsSameRun};
 
 use crate::kept_words::KeptWords;
-use crate::quiet::pass_quiet;
 use crate::records::Records;
 use crate::walking::WalkingRun;
 use crate::words::ReplacedWords;
-use circuit_walk::{Program, Step, Walk};
+use circuit_walk::{Program, Step, StepTaker, take_all};
 use std::alloc::{AllocError, Allocator};
 
 /// The records of a program's reference run, and what says which words its collapses replaced: the words themselves where
@@ -29,28 +28,8 @@ pub(crate) fn follow<A: Allocator + Copy>(
     ensures count { IfOk result (λ made. length made.0 ≡ program.now.listing.records) }
     ensures words { IfOk result (λ made. AreWordsOf program.now.listing (words_of made.1)) }
 {
-    let mut kept = KeptWords::new(alloc, bytes)?;
-    let records = run_and_keep(alloc, program, &mut kept)?;
+    let (records, kept) = run_and_keep(alloc, program, bytes)?;
     with_words(alloc, program, records, kept)
-}
-
-// The records of the run. The words that its collapses replaced are kept, where there is room for them.
-fn run_and_keep<A: Allocator + Copy>(
-    alloc: A,
-    program: &Program<'_, A>,
-    kept: &mut KeptWords<A>,
-) -> Result<Records<A>, AllocError>
-    requires empty { kept.old.replaced ≡ [] }
-    ensures records { IfOk result (λ records. records
-        ≡ records_of program.now.listing [] (zero_coins program.now.listing)) }
-    ensures count { IfOk result (λ records. length records ≡ program.now.listing.records) }
-    ensures kept { OnOk result
-        (kept.new.whole ≡ true
-        → AreEntries program.now.listing program.now.listing.steps
-        (start (zero_coins program.now.listing)) kept.new.replaced) }
-{
-    let mut walk = WalkingRun::start(alloc, program)?;
-    follow_steps(alloc, &mut walk, program, kept)
 }
 
 // These records, and what says the replaced words: those kept, where there was room for all of them.
@@ -73,34 +52,70 @@ fn with_words<A: Allocator + Copy>(
     Ok((records, ReplacedWords::Walked(walk)))
 }
 
-// Takes all steps of the program from the start, and answers the records.
-fn follow_steps<A: Allocator + Copy>(
+// A reference run that takes the steps of a program, and what is kept of it. Once memory has run out it takes none.
+#[derive(Drop)]
+struct Keeping<A: Allocator + Copy> {
+    walk: WalkingRun<A>,
+    kept: KeptWords<A>,
+    failed: bool,
+}
+
+impl<A: Allocator + Copy> StepTaker<A> for Keeping<A> {
+    ghost use Rattle.std.specs.Prelude.{◌≡◌, false};
+    ghost use Rattle.forward_sim.specs.private.Takers.{IsKept};
+
+    ghost stands = { λ program begun k keeping. keeping.failed ≡ false → IsKept program.listing k keeping.walk keeping.kept };
+
+    #[inline(always)]
+    fn take(&mut self, program: &Program<'_, A>, step: Step<'_>) {
+        program.well_formed();
+        if self.failed {
+            return;
+        }
+        match keep_step(&mut self.walk, program, &mut self.kept, step) {
+            Ok(()) => {}
+            Err(_) => self.failed = true,
+        }
+    }
+
+    // No fault happens at all.
+    #[inline(always)]
+    fn pass_faults(&mut self, program: &Program<'_, A>, _first: u32, count: usize) -> usize {
+        program.well_formed();
+        count
+    }
+}
+
+// Takes all steps of the program, and answers the records of the run, and the words that its collapses replaced, where there was
+// room for them.
+fn run_and_keep<A: Allocator + Copy>(
     alloc: A,
-    walk: &mut WalkingRun<A>,
     program: &Program<'_, A>,
-    kept: &mut KeptWords<A>,
-) -> Result<Records<A>, AllocError>
-    requires qubits { walking_qubits walk.old ≡ program.now.listing.qubits }
-    requires room { walk.old.room ≡ program.now.listing.records }
-    requires starts { IsSameRun program.now.listing.qubits (walking_run walk.old) (start []) }
-    requires empty { kept.old.replaced ≡ [] }
-    ensures records { IfOk result (λ records. records
+    bytes: usize,
+) -> Result<(Records<A>, KeptWords<A>), AllocError>
+    ensures records { IfOk result (λ made. made.0
         ≡ records_of program.now.listing [] (zero_coins program.now.listing)) }
-    ensures count { IfOk result (λ records. length records ≡ program.now.listing.records) }
-    ensures kept { OnOk result
-        (kept.new.whole ≡ true
+    ensures count { IfOk result (λ made. length made.0 ≡ program.now.listing.records) }
+    ensures kept { IfOk result (λ made. made.1.whole ≡ true
         → AreEntries program.now.listing program.now.listing.steps
-        (start (zero_coins program.now.listing)) kept.new.replaced) }
+        (start (zero_coins program.now.listing)) made.1.replaced) }
 {
     program.well_formed();
-    let mut steps = Walk::start(program);
-    let mut hit = 0;
-    while let Some(step) = steps.next_step() {
-        keep_step(walk, program, kept, step)?;
-        // No fault happens at all.
-        pass_quiet(&mut steps, &[], &mut hit, step);
+    let mut keeping = Keeping {
+        walk: WalkingRun::start(alloc, program)?,
+        kept: KeptWords::new(alloc, bytes)?,
+        failed: false,
+    };
+    take_all(program, &mut keeping);
+    let Keeping {
+        mut walk,
+        kept,
+        failed,
+    } = keeping;
+    if failed {
+        return Err(AllocError);
     }
-    Ok(walk.take_records(alloc))
+    Ok((walk.take_records(alloc), kept))
 }
 
 // Takes a step, and keeps the word that it replaced if it is a collapse. Where there is no room for the words any more, it

@@ -1,22 +1,8 @@
 -- Faults that don't happen.
 -- (How they are passed over is this project's own.)
-use Rattle.std.specs.Prelude.{◌≡◌, ◌<◌, ◌≤◌, ◌+◌, ℕ, Bool, false, List}
-use Rattle.circuit_walk.specs.Programs.{Walked}
-use Rattle.circuit_walk.specs.Walks.{ArePassed, faults_before}
+use Rattle.std.specs.Prelude.{◌≡◌, ◌<◌, ◌≤◌, ℕ, Bool, false, List}
 use Rattle.step_model.specs.Runs.{happens}
 
 -- none from one number to another happens
 abbrev pub NoneHappens : List Bool → ℕ → ℕ → Type 0
 NoneHappens faults from end = (f : ℕ) → from ≤ f → f < end → happens faults f ≡ false
-
--- none that the walk has still to meet does, up to this number
-abbrev pub NoneAhead : List Bool → Walked → ℕ → Type 0
-NoneAhead faults walk end = NoneHappens faults (faults_before walk.program.listing.steps walk.place) end
-
--- a walk passed over faults alone, none of which happens
-pub record PassesQuiet (faults : List Bool) (old new : Walked) : Type 0 where
-  pub program_is : new.program ≡ old.program
-  pub count : ℕ
-  pub place_is : new.place ≡ old.place + count
-  pub passed : ArePassed old.program.listing.steps old.place count
-  pub quiet : NoneAhead faults old (faults_before old.program.listing.steps old.place + count)
