@@ -17,6 +17,7 @@ use std::alloc::Allocator;
 
 /// Applies a one-qubit gate. H exchanges the two words, S and its inverse multiply one by the other, and gates other than
 /// these and letters make both anew. What it leaves in `spare` is of no use.
+#[inline(never)]
 pub(crate) fn apply_one<A: Allocator + Copy>(
     rows: &mut Vec<Pair<A>, A>,
     spare: &mut Pair<A>,
@@ -59,6 +60,7 @@ fn letter_of(gate: Gate) -> Option<Letter>
 }
 
 // The words of the preimages of X and Z.
+#[inline(never)]
 fn set_preimages<A: Allocator + Copy>(new: &mut Pair<A>, pair: &Pair<A>, gate: Gate)
     requires arity { arity_of gate ≡ 1 }
     requires new { HasLength (length new.old.0.letters) new.old }
@@ -79,6 +81,7 @@ fn set_preimages<A: Allocator + Copy>(new: &mut Pair<A>, pair: &Pair<A>, gate: G
 
 /// Applies a two-qubit gate. SWAP exchanges two pairs, and a gate that isn't controlled makes all four words anew, in `first`
 /// and `second`. What it leaves there is of no use.
+#[inline(never)]
 pub(crate) fn apply_two<A: Allocator + Copy>(
     rows: &mut Vec<Pair<A>, A>,
     first: &mut Pair<A>,

@@ -144,6 +144,7 @@ pub(crate) fn change_sign<A: Allocator + Copy>(word: &mut Word<A>, minus: bool)
 
 /// Makes a pair equal to another, in its own memory. So pairs keep their order in memory, and a pass over all of them
 /// reads it in order.
+#[inline(never)]
 pub(crate) fn replace<A: Allocator + Copy>(pair: &mut Pair<A>, new: &Pair<A>)
     requires x { length pair.old.0.letters ≡ length new.now.0.letters }
     requires z { length pair.old.1.letters ≡ length new.now.1.letters }
@@ -154,6 +155,7 @@ pub(crate) fn replace<A: Allocator + Copy>(pair: &mut Pair<A>, new: &Pair<A>)
 }
 
 /// Exchanges the words of a pair.
+#[inline(always)]
 pub(crate) fn exchange<A: Allocator + Copy>(pair: &mut Pair<A>)
     ensures { pair.new ≡ (pair.old.1, pair.old.0) }
 {
@@ -161,6 +163,7 @@ pub(crate) fn exchange<A: Allocator + Copy>(pair: &mut Pair<A>)
 }
 
 /// Multiplies the word of X by that of Z, and changes its sign where `minus`.
+#[inline(never)]
 pub(crate) fn multiply_first<A: Allocator + Copy>(pair: &mut Pair<A>, minus: bool)
     requires { length pair.old.0.letters ≡ length pair.old.1.letters }
     ensures { pair.new ≡ (with_sign_changed minus (product pair.old.0 pair.old.1), pair.old.1) }
@@ -170,6 +173,7 @@ pub(crate) fn multiply_first<A: Allocator + Copy>(pair: &mut Pair<A>, minus: boo
 }
 
 /// Applies a letter to the qubit: the words of X and Z change their signs where X and Z anticommute with it.
+#[inline(always)]
 pub(crate) fn apply_letter<A: Allocator + Copy>(pair: &mut Pair<A>, letter: Letter)
     ensures { pair.new ≡ pair_after letter pair.old }
 {

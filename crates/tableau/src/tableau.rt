@@ -94,6 +94,7 @@ impl<A: Allocator + Copy> Tableau<A> {
     }
 
     /// Applies a gate, to qubit `a` or to qubits `a` and `b`. A one-qubit gate ignores `b`.
+    #[inline(always)]
     pub fn apply(&mut self, gate: Gate, a: usize, b: usize)
         requires first_inside { a < row_count self.old }
         requires second_inside { arity_of gate ≡ 2 → b < row_count self.old }
@@ -111,6 +112,7 @@ impl<A: Allocator + Copy> Tableau<A> {
         }
     }
 
+    #[inline(always)]
     fn apply_one(&mut self, gate: Gate, qubit: usize)
         requires arity { arity_of gate ≡ 1 }
         requires inside { qubit < row_count self.old }
@@ -120,6 +122,7 @@ impl<A: Allocator + Copy> Tableau<A> {
         apply_one(&mut self.rows, &mut self.first, gate, qubit);
     }
 
+    #[inline(always)]
     fn apply_two(&mut self, gate: Gate, a: usize, b: usize)
         requires arity { arity_of gate ≡ 2 }
         requires first_inside { a < row_count self.old }
@@ -279,6 +282,7 @@ impl<A: Allocator + Copy> Tableau<A> {
     }
 
     // Makes turns that waited.
+    #[inline(never)]
     fn turn(&mut self, turns: &[Turn<A>])
         requires { AreTurns turns.now self.old }
         ensures { self.new ≡ turned_by turns.now self.old }

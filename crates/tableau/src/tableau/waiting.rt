@@ -96,6 +96,7 @@ impl<A: Allocator + Copy> WaitingTableau<A> {
     }
 
     /// Applies a gate, to qubit `a` or to qubits `a` and `b`. A one-qubit gate ignores `b`.
+    #[inline(always)]
     pub fn apply(&mut self, gate: Gate, a: usize, b: usize)
         requires first_inside { a < row_count self.old.rows }
         requires second_inside { arity_of gate ≡ 2 → b < row_count self.old.rows }
