@@ -16,7 +16,7 @@ use Rattle.circuit_walk.specs.Steps.{listed}
 -- ---- steps that are left
 
 -- the step at a place is the first that is left
-left_at : (steps : List ListedStep) (place : ℕ) (step : ListedStep) → slice_get steps place ≡ Some step → faults_named (drop place steps) ≡ step_faults step ++ faults_named (drop (place + 1) steps)
+pub left_at : (steps : List ListedStep) (place : ℕ) (step : ListedStep) → slice_get steps place ≡ Some step → faults_named (drop place steps) ≡ step_faults step ++ faults_named (drop (place + 1) steps)
 left_at steps place step at =
     ap faults_named
     (drop_more steps place step (slice_get_within steps place step at)

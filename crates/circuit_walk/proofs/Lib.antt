@@ -4,6 +4,7 @@ pub mod CoordinatesMade
 pub mod CountLemmas
 pub mod CourseLemmas
 pub mod EndLemmas
+pub mod FaultNumbers
 pub mod FaultOrders
 pub mod FeedbackEarlier
 pub mod FitParts

@@ -1,6 +1,6 @@
 -- A pass over instructions: from between two into the next one, behind its last step, and behind all.
-use Rattle.std.proofs.Common.{◌≡◌, ◌<◌, ℕ, true, List, [], ◌∷◌, length, None, Some, refl, sym, ap, ◌∙◌, subst, arith}
-use Rattle.std.specs.Prelude.{slice_get, slice_index_or, take}
+use Rattle.std.proofs.Common.{◌≡◌, ◌<◌, ℕ, [], length, None, Some, refl, sym, ap, subst, arith}
+use Rattle.std.specs.Prelude.{slice_get, slice_index_or}
 use Rattle.cursor.specs.Moves.{Faces, GoesOver, IsNext, IsSame}
 use Rattle.cursor.specs.Places.{StandsIn, before_of, left_of}
 use Rattle.cursor.specs.declared.cursor.Cursor.{Cursor}

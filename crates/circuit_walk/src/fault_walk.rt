@@ -46,7 +46,7 @@ pub fn next_fault<'a, 'p, A: Allocator + Copy>(walk: &mut Walk<'a, 'p, A>) -> Op
 
 /// The fault of a step.
 #[inline(always)]
-fn fault_in<'c>(step: Step<'c>) -> Option<FoundFault<'c>>
+pub(crate) fn fault_in<'c>(step: Step<'c>) -> Option<FoundFault<'c>>
     ensures number { (n : ℕ) → step_faults (listed n step.entry) ≡ option_to_list (option_map number_in result) }
     ensures found { (program : KeptProgram) → IsStepOf program step.entry → IfSome result (IsFaultOf program) }
 {

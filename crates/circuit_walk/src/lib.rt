@@ -4,7 +4,9 @@
 mod choice;
 mod course;
 mod fault_course;
+mod fault_taker;
 mod fault_walk;
+mod faults;
 mod instruction_steps;
 mod letters;
 mod pairs;
@@ -18,7 +20,9 @@ mod turn_course;
 mod turns;
 mod walk;
 
+pub use fault_taker::FaultTaker;
 pub use fault_walk::{FoundFault, next_fault};
+pub use faults::take_faults;
 pub use letters::Letters;
 pub use passes::take_all;
 pub use program::{Parts, Program, Totals};

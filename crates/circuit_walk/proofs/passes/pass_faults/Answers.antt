@@ -1,5 +1,5 @@
 -- The faults ahead are in a row, and the program has room for them.
-use Rattle.std.proofs.Common.{◌≡◌, ◌≢◌, ◌+◌, ◌-◌, ◌<◌, ◌≤◌, ℕ, refl, arith}
+use Rattle.std.proofs.Common.{◌+◌, ◌-◌, ◌≤◌, refl, arith}
 use Rattle.circuit_walk.specs.private.Courses.{course_at}
 use Rattle.circuit_walk.proofs.RunLemmas.{InError, in_error, moves, numbered, room}
 use Rattle.circuit_walk.proofs.passes.pass_faults.Given.{Over}

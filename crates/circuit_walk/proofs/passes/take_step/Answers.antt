@@ -1,9 +1,7 @@
 -- The step of the instruction that the place is in, and the taker that takes it.
 use Rattle.std.proofs.Common.{◌≡◌, Some, arith}
 use Rattle.std.specs.Prelude.{slice_get}
-use Rattle.circuit_walk.specs.Named.{IsStepOf}
 use Rattle.circuit_walk.specs.Steps.{listed}
-use Rattle.circuit_walk.specs.declared.step.Step.{Step}
 use Rattle.circuit_walk.specs.private.Courses.{course_at}
 use Rattle.circuit_walk.proofs.NamedSteps.{faced_named}
 use Rattle.circuit_walk.proofs.TakeLemmas.{below_end, counts_fit, inside_before, over_step, takes}
