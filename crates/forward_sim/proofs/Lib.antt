@@ -16,7 +16,6 @@ pub mod WordsSaid
 pub mod RunLemmas
 pub mod WordLemmas
 pub mod BoundLemmas
-pub mod BoundWalks
 pub mod LaneLemmas
 pub mod Rotations
 pub mod PassedFaults

@@ -9,3 +9,4 @@ pub mod Sieves
 pub mod Quiet
 pub mod Along
 pub mod Takers
+pub mod BoundTakers

@@ -3,7 +3,7 @@ ghost use Rattle.std.specs.Prelude.{◌≡◌, ◌+◌, length, IfOk, IfErr, OnO
 ghost use Rattle.step_model.specs.Faults.{memory_fault};
 ghost use Rattle.forward_sim.specs.Drawn.{after_words, bounds_of, drawn_coins, drawn_faults};
 
-use circuit_walk::{Program, Walk, next_fault};
+use circuit_walk::{FaultTaker, FoundFault, Program, take_faults};
 use rand_core::utils::NextWord;
 use rand_pcg::Pcg64;
 use std::alloc::{AllocError, Allocator};
@@ -37,6 +37,25 @@ pub fn draw<A: Allocator + Copy>(
     Ok((faults, coins))
 }
 
+// The bounds of faults, one after another.
+#[derive(Drop)]
+struct BoundList<A: Allocator + Copy> {
+    bounds: Vec<u128, A>,
+}
+
+impl<A: Allocator + Copy> FaultTaker<A> for BoundList<A> {
+    ghost use Rattle.std.specs.Prelude.{vec_capacity};
+    ghost use Rattle.forward_sim.specs.private.BoundTakers.{AreListed};
+
+    ghost stands = { λ program begun n list. AreListed program.listing n (vec_capacity list.bounds) list.bounds.items };
+
+    #[inline(always)]
+    fn take(&mut self, program: &Program<'_, A>, fault: FoundFault<'_>) {
+        self.bounds
+            .push_reserved(program.chance_bound(fault.chance));
+    }
+}
+
 // The bound of each fault.
 fn fault_bounds<A: Allocator + Copy>(
     alloc: A,
@@ -44,12 +63,10 @@ fn fault_bounds<A: Allocator + Copy>(
 ) -> Result<Vec<u128, A>, AllocError>
     ensures { IfOk result (λ bounds. bounds.items ≡ bounds_of program.now.listing) }
 {
-    program.well_formed();
-    let mut bounds = Vec::with_capacity(alloc, program.fault_count() as usize)?;
-    let mut walk = Walk::start(program);
-    while let Some(fault) = next_fault(&mut walk) {
-        bounds.push_reserved(program.chance_bound(fault.chance));
-    }
+    let bounds = Vec::with_capacity(alloc, program.fault_count() as usize)?;
+    let mut list = BoundList { bounds };
+    take_faults(program, &mut list);
+    let BoundList { bounds } = list;
     Ok(bounds)
 }
 

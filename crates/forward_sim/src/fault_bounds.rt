@@ -5,7 +5,7 @@ ghost use Rattle.forward_sim.specs.Drawn.{bounds_of};
 
 use crate::runs::{BoundRun, are_short, bound_runs, word_below};
 use crate::sieve::Sieve;
-use circuit_walk::{Program, Walk, next_fault};
+use circuit_walk::{FaultTaker, FoundFault, Program, take_faults};
 use std::alloc::{AllocError, Allocator};
 use std::marker::Model;
 
@@ -63,8 +63,36 @@ impl<A: Allocator + Copy> FaultBounds<A> {
     }
 }
 
-// For each fault the greatest word with which it happens, unless one never does. (No bound is above 2^64, since no probability
-// is above 1.)
+// The greatest words with which faults happen, one after another, unless one never does. (No bound is above 2^64, since no
+// probability is above 1.)
+#[derive(Drop)]
+struct GreatestWords<A: Allocator + Copy> {
+    words: Vec<u64, A>,
+    one_never_does: bool,
+}
+
+impl<A: Allocator + Copy> FaultTaker<A> for GreatestWords<A> {
+    ghost use Rattle.std.specs.Prelude.{◌≡◌, false, vec_capacity};
+    ghost use Rattle.forward_sim.specs.private.BoundRuns.{bounds_above};
+    ghost use Rattle.forward_sim.specs.private.BoundTakers.{AreListed};
+
+    ghost stands = { λ program begun n all. all.one_never_does ≡ false → AreListed program.listing n (vec_capacity all.words) (bounds_above all.words.items) };
+
+    #[inline(always)]
+    fn take(&mut self, program: &Program<'_, A>, fault: FoundFault<'_>) {
+        if self.one_never_does {
+            return;
+        }
+        let bound = program.chance_bound(fault.chance);
+        if bound == 0 || 1 << 64 < bound {
+            self.one_never_does = true;
+            return;
+        }
+        self.words.push_reserved(word_below(bound));
+    }
+}
+
+// For each fault the greatest word with which it happens, unless one never does.
 fn greatest_words<A: Allocator + Copy>(
     alloc: A,
     program: &Program<'_, A>,
@@ -72,15 +100,18 @@ fn greatest_words<A: Allocator + Copy>(
     ensures { IfOk result (λ found. IfSome found (λ words. bounds_above words.items
         ≡ bounds_of program.now.listing)) }
 {
-    program.well_formed();
-    let mut words = Vec::with_capacity(alloc, program.fault_count() as usize)?;
-    let mut walk = Walk::start(program);
-    while let Some(fault) = next_fault(&mut walk) {
-        let bound = program.chance_bound(fault.chance);
-        if bound == 0 || 1 << 64 < bound {
-            return Ok(None);
-        }
-        words.push_reserved(word_below(bound));
+    let words = Vec::with_capacity(alloc, program.fault_count() as usize)?;
+    let mut all = GreatestWords {
+        words,
+        one_never_does: false,
+    };
+    take_faults(program, &mut all);
+    let GreatestWords {
+        words,
+        one_never_does,
+    } = all;
+    if one_never_does {
+        return Ok(None);
     }
     Ok(Some(words))
 }

@@ -3,7 +3,7 @@ ghost use Rattle.std.specs.Prelude.{◌≡◌, ◌+◌, ◌^◌, ◌<◌, ◌≤
 ghost use Rattle.forward_sim.specs.private.BoundRuns.{IsGreatestBelow, bounds_in, bounds_of_run};
 ghost use Rattle.forward_sim.specs.Drawn.{bounds_of};
 
-use circuit_walk::{Program, Walk, next_fault};
+use circuit_walk::{FaultTaker, FoundFault, Program, take_faults};
 use std::alloc::{AllocError, Allocator};
 
 // A run of so many faults is drawn into all lanes before the next one is. So many words stay in the first-level cache.
@@ -16,6 +16,41 @@ pub(crate) struct BoundRun {
     pub(crate) count: usize,
 }
 
+// Runs one after another, and the last one, which may go on. Once there are more than `few` and these are short, or memory has run
+// out, no fault is taken any more.
+#[derive(Drop)]
+struct BoundRuns<A: Allocator + Copy> {
+    runs: Vec<BoundRun, A>,
+    last: BoundRun,
+    few: usize,
+    are_many: bool,
+    failed: bool,
+}
+
+impl<A: Allocator + Copy> FaultTaker<A> for BoundRuns<A> {
+    ghost use Rattle.forward_sim.specs.private.BoundTakers.{AreRuns};
+
+    ghost stands = { λ program begun n all. AreRuns program.listing n all.few begun.few all.are_many all.failed all.runs.items all.last };
+
+    #[inline(always)]
+    fn take(&mut self, program: &Program<'_, A>, fault: FoundFault<'_>) {
+        // The proof takes the range of the fault's number from this.
+        let _count = program.fault_count();
+        if self.are_many || self.failed {
+            return;
+        }
+        if self.few < self.runs.len() && are_short(self.runs.len(), fault.number) {
+            self.are_many = true;
+            return;
+        }
+        let bound = program.chance_bound(fault.chance);
+        match count_fault(&mut self.runs, &mut self.last, bound) {
+            Ok(()) => {}
+            Err(_) => self.failed = true,
+        }
+    }
+}
+
 /// The runs, or none where there are more than `few` and these are short.
 pub(crate) fn bound_runs<A: Allocator + Copy>(
     alloc: A,
@@ -26,20 +61,27 @@ pub(crate) fn bound_runs<A: Allocator + Copy>(
         ≡ bounds_of program.now.listing)) }
     ensures none { IfOk result (λ found. IfNone found (few < usize.MAX)) }
 {
-    program.well_formed();
-    let mut runs = Vec::new(alloc);
-    // Any bound will do for a run of no faults, but not 0, which no word is below.
-    let mut last = BoundRun { bound: 1, count: 0 };
-    let mut walk = Walk::start(program);
-    for number in 0..program.fault_count() {
-        if few < runs.len() && are_short(runs.len(), number) {
-            return Ok(None);
-        }
-        let Some(fault) = next_fault(&mut walk) else {
-            // Never: the walk meets as many faults as are counted.
-            return Ok(None);
-        };
-        count_fault(&mut runs, &mut last, program.chance_bound(fault.chance))?;
+    let mut all = BoundRuns {
+        runs: Vec::new(alloc),
+        // Any bound will do for a run of no faults, but not 0, which no word is below.
+        last: BoundRun { bound: 1, count: 0 },
+        few,
+        are_many: false,
+        failed: false,
+    };
+    take_faults(program, &mut all);
+    let BoundRuns {
+        mut runs,
+        last,
+        are_many,
+        failed,
+        ..
+    } = all;
+    if failed {
+        return Err(AllocError);
+    }
+    if are_many {
+        return Ok(None);
     }
     runs.push(last)?;
     Ok(Some(runs))
@@ -54,6 +96,7 @@ pub(crate) fn are_short(runs: usize, faults: u32) -> bool
 }
 
 // A fault of this bound goes on with the last run, or it begins one.
+#[inline(always)]
 fn count_fault<A: Allocator + Copy>(
     runs: &mut Vec<BoundRun, A>,
     last: &mut BoundRun,
