@@ -3,12 +3,12 @@ use Rattle.std.proofs.Common.{◌≡◌, ℕ, ◌+◌, ◌<◌, List, [], ◌∷
 use Rattle.std.specs.Prelude.{slice_get}
 use Rattle.std.specs.List.{range_with_len}
 use Rattle.std.proofs.Math.Seq.{get_or-append_seam}
-use Rattle.std.proofs.lemmas.List.{length-append, take-append-drop, take_all}
+use Rattle.std.proofs.lemmas.List.{drop_more, length-append, take-append-drop, take_all}
 use Rattle.std.proofs.lemmas.List.FromFn.{get_or-range_with_len, length-range_with_len}
+use Rattle.std.proofs.lemmas.Option.{get_or_from_slice_get, slice_get_within}
 use Rattle.step_model.specs.Listing.{Listing, ListedStep}
 use Rattle.step_model.specs.WellFormed.{IsWellFormed, faults_named, step_faults}
 use Rattle.circuit_walk.specs.Walks.{faults_before}
-use Rattle.circuit_walk.proofs.FoundLemmas.{left_at}
 use Rattle.circuit_walk.proofs.PlaceCounts.{taken}
 
 named_apart : (xs ys : List ListedStep) → faults_named (xs ++ ys) ≡ faults_named xs ++ faults_named ys
@@ -16,6 +16,13 @@ named_apart [] ys = refl
 named_apart (x ∷ xs) ys =
     ap (λ fs. step_faults x ++ fs) (named_apart xs ys)
     ∙ sym (append_assoc (step_faults x) (faults_named xs) (faults_named ys))
+
+-- a step names the first faults of those that it and the later ones name
+left_at : (steps : List ListedStep) (place : ℕ) (step : ListedStep) → slice_get steps place ≡ Some step → faults_named (drop place steps) ≡ step_faults step ++ faults_named (drop (place + 1) steps)
+left_at steps place step at =
+    ap faults_named
+    (drop_more steps place step (slice_get_within steps place step at)
+    ∙ ap (λ s. s ∷ drop (place + 1) steps) (get_or_from_slice_get steps place step step at))
 
 module _ (program : Listing) (k : ℕ) (step : ListedStep) (at : slice_get program.steps k ≡ Some step) where
   module _ (n : ℕ) (has : step_faults step ≡ n ∷ []) where

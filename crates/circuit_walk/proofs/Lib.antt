@@ -5,10 +5,8 @@ pub mod CountLemmas
 pub mod CourseLemmas
 pub mod EndLemmas
 pub mod FaultNumbers
-pub mod FaultOrders
 pub mod FeedbackEarlier
 pub mod FitParts
-pub mod FoundLemmas
 pub mod GatesFit
 pub mod LentLetters
 pub mod MadeFaults

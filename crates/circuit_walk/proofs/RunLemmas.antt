@@ -1,7 +1,7 @@
 -- The steps of an error are faults in a row, with the next numbers; no step of another operation is such a fault.
-use Rattle.std.proofs.Common.{◌≡◌, ◌≢◌, ◌≤◌, ◌<◌, ◌+◌, ◌-◌, ◌*◌, ℕ, zero, suc, Bool, true, false, List, [], ◌∷◌, length, get_or, Some, refl, sym, ap, ◌∙◌, arith}
+use Rattle.std.proofs.Common.{◌≡◌, ◌≤◌, ◌<◌, ◌+◌, ◌-◌, ◌*◌, ℕ, zero, suc, Bool, true, false, List, length, Some, refl, sym, ap, ◌∙◌, arith}
 use Rattle.std.specs.Prelude.{slice_get, take}
-use Rattle.std.proofs.lemmas.Option.{slice_get-get_or, slice_get_within}
+use Rattle.std.proofs.lemmas.Option.{slice_get_within}
 use Rattle.cursor.specs.Places.{before_of}
 use Rattle.step_model.specs.Listing.{ListedStep, Fault}
 use Rattle.step_model.specs.WellFormed.{collapse_count}
@@ -15,7 +15,6 @@ use Rattle.circuit_walk.specs.declared.step.Step.{Step}
 use Rattle.circuit_walk.specs.declared.step.Step.TheVariants as step
 use Rattle.circuit_walk.specs.Steps.{listed}
 use Rattle.circuit_walk.specs.Before.{Before}
-use Rattle.circuit_walk.specs.Meaning.{new_steps}
 use Rattle.circuit_walk.specs.Programs.{KeptProgram}
 use Rattle.circuit_walk.specs.StepsMade.{operation_made}
 use Rattle.circuit_walk.specs.Walks.{AreFaultsFrom, ArePassed, faults_before, is_fault, records_before}
@@ -29,7 +28,7 @@ use Rattle.circuit_walk.proofs.CountLemmas.{MakesAs, length-numbered}
 use Rattle.circuit_walk.proofs.EndLemmas.{ends}
 use Rattle.circuit_walk.proofs.PlaceCounts.{taken}
 use Rattle.circuit_walk.proofs.StepLemmas.{numbered_at, there_is}
-use Rattle.circuit_walk.proofs.TakeLemmas.{below_end, counts_few, goes_on, inside_before, makes_own, step_at}
+use Rattle.circuit_walk.proofs.TakeLemmas.{counts_few, goes_on, step_at}
 
 -- ---- errors
 
@@ -172,10 +171,7 @@ numbered program c e count le = λ j lt.
     let here : c.steps + j ≡ e.base + (c.here.at + j) = omega (arith, e.place_is) in
     ap (slice_get program.listing.steps) here ∙ e.fault_at (c.here.at + j) (omega (arith, lt, le)) ∙ ap (λ f. Some (Fault f)) (omega (arith, e.number_is))
 
--- the fault right after the place, and the one right before it
-pub fault_here : {A : Type 0} (program : KeptProgram) (c : Course A) → (e : InError program c) → c.here.at < c.here.end → slice_get program.listing.steps c.steps ≡ Some (Fault (e.first + c.here.at))
-fault_here program c e lt = ap (slice_get program.listing.steps) e.place_is ∙ e.fault_at c.here.at lt
-
+-- the fault right before the place
 pub fault_before : {A : Type 0} (program : KeptProgram) (c : Course A) → (e : InError program c) → 0 < c.here.at → (place : ℕ) → c.steps ≡ place + 1 → slice_get program.listing.steps place ≡ Some (Fault (e.first + (c.here.at - 1)))
 fault_before program c e some place is =
     let here : place ≡ e.base + (c.here.at - 1) = omega (arith, is, e.place_is, some) in
@@ -226,24 +222,6 @@ moves program c course inside errors e at faults steps le number place =
     })
 
 -- ---- where no fault stands
-
-pub no_fault_past : (steps : List ListedStep) (place : ℕ) → length steps ≤ place → is_fault (slice_get steps place) ≡ false
-no_fault_past [] place past = refl
-no_fault_past (s ∷ steps) zero past = absurd (omega (arith, past))
-no_fault_past (s ∷ steps) (suc place) past = no_fault_past steps place (omega (arith, past))
-
-pub no_fault_here : {A : Type 0} (program : KeptProgram) (c : Course A) → IsCourse program c → c.here.at ≢ c.here.end → makes_errors c.here.operation ≡ false → is_fault (slice_get program.listing.steps c.steps) ≡ false
-no_fault_here program c course facing other =
-    let h = inside_before program c course facing in
-    let n = program.listing.qubits in
-    let b = state_at n c.text.items.now.items c.cursor in
-    let i = h.instruction in
-    let there = (ends n b i h.stands.steps.fits).inside c.here.at h.k h.stands.place (omega (arith, below_end program c h facing, h.stands.steps.end)) in
-    let step = get_or (new_steps n b i) h.k (Fault 0) in
-    let made = slice_get-get_or (new_steps n b i) h.k (Fault 0) there in
-    ap (λ p. is_fault (slice_get program.listing.steps p)) h.place_is
-    ∙ ap is_fault (step_at program c course h h.k step made)
-    ∙ no_fault c.here.operation c.here.flips step other (makes_own n b i c.here h.k step h.stands.steps made)
 
 pub no_fault_before : {A : Type 0} (program : KeptProgram) (c : Course A) → IsCourse program c → 0 < c.here.at → makes_errors c.here.operation ≡ false → is_fault (slice_get program.listing.steps (c.steps - 1)) ≡ false
 no_fault_before program c course facing other =

@@ -1,13 +1,12 @@
--- The faults of a program as a walk over its steps meets them. (Stim's circuit format: noise instructions, and the
+-- A fault of a program as a taker of faults gets it. (Stim's circuit format: noise instructions, and the
 -- arguments of measurements.)
-use Rattle.std.specs.Prelude.{◌≡◌, ◌<◌, ℕ, List, [], length, drop, Option, None, Some}
+use Rattle.std.specs.Prelude.{◌≡◌, ◌<◌, ℕ, List, [], length, Option, None, Some}
 use Rattle.step_model.specs.declared.step.Term.{Term}
 use Rattle.step_model.specs.Chances.{chance_at}
 use Rattle.step_model.specs.Listing.{Applies, Effect, Flips, effect_at, fault_at}
-use Rattle.step_model.specs.WellFormed.{faults_named}
-use Rattle.circuit_walk.specs.declared.fault_walk.FoundFault.{FoundFault}
+use Rattle.circuit_walk.specs.declared.found_fault.FoundFault.{FoundFault}
 use Rattle.circuit_walk.specs.Letters.{AreSmall, letters_in}
-use Rattle.circuit_walk.specs.Programs.{KeptProgram, Walked}
+use Rattle.circuit_walk.specs.Programs.{KeptProgram}
 
 -- the letters that a fault applies, and the record that it flips
 abbrev pub effect_terms : Effect → List Term
@@ -17,10 +16,6 @@ effect_terms (Flips r) = []
 abbrev pub flipped_record : Effect → Option ℕ
 flipped_record (Applies terms) = None
 flipped_record (Flips r) = Some r
-
--- the numbers of the faults that a walk has still to meet
-abbrev pub faults_left : Walked → List ℕ
-faults_left walk = faults_named (drop walk.place walk.program.listing.steps)
 
 abbrev pub number_in : FoundFault → ℕ
 number_in fault = fault.number

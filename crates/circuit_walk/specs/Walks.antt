@@ -1,4 +1,4 @@
--- Faults that stand in a row, which a walk passes at once.
+-- Faults that stand in a row, which are passed at once.
 -- (Stim's circuit format, github.com/quantumlib/Stim, doc/file_format_stim_circuit.md; how they are passed is this project's own.)
 use Rattle.std.specs.Prelude.{◌≡◌, ◌<◌, ◌≤◌, ◌+◌, ◌-◌, ℕ, Bool, true, false, List, Option, Some, length, slice_get, take}
 use Rattle.step_model.specs.Listing.{ListedStep, Fault}
@@ -30,9 +30,3 @@ ArePassed steps place count = (i : ℕ) → i < count → slice_get steps (place
 -- so many steps from a place on are faults, of which the first has this number
 abbrev pub AreFaultsFrom : List ListedStep → ℕ → ℕ → ℕ → Type 0
 AreFaultsFrom steps place first count = (i : ℕ) → i < count → slice_get steps (place + i) ≡ Some (Fault (first + i))
-
--- at most so many are, and none only where no fault stands there
-pub record PassesOver (steps : List ListedStep) (place most count : ℕ) : Type 0 where
-  pub few : count ≤ most
-  pub each : ArePassed steps place count
-  pub none : 0 < most → count ≡ 0 → is_fault (slice_get steps place) ≡ false

@@ -1,9 +1,9 @@
-//! A course over faults in a row: each step of an error is a fault, so those of one instruction are passed at once.
+//! A course back over faults in a row: each step of an error is a fault, so those of one instruction are passed at once.
 
-ghost use Rattle.std.specs.Prelude.{◌≡◌, ◌≢◌, ◌+◌, ◌-◌, ◌<◌, ◌≤◌, ℕ, None, Some, IfSome, false, true, slice_get};
+ghost use Rattle.std.specs.Prelude.{◌≡◌, ◌+◌, ◌-◌, ◌<◌, ◌≤◌, ℕ, None, Some, IfSome, false, true, slice_get};
 ghost use Rattle.circuit_walk.specs.Named.{IsStepOf};
 ghost use Rattle.circuit_walk.specs.Programs.{KeptProgram};
-ghost use Rattle.circuit_walk.specs.Walks.{ArePassed, PassesOver, is_fault};
+ghost use Rattle.circuit_walk.specs.Walks.{ArePassed, is_fault};
 ghost use Rattle.circuit_walk.specs.declared.step.Step.TheVariants as step;
 ghost use Rattle.circuit_walk.specs.private.Courses.{IsCourse};
 ghost use Rattle.circuit_walk.specs.Makes.{makes_errors};
@@ -27,34 +27,6 @@ fn makes_errors(operation: Operation) -> bool
 }
 
 impl<'a, 'p, A: Allocator + Copy> Course<'a, 'p, A> {
-    /// Whether a fault stands right after the place, in the instruction that the place is inside.
-    #[inline(always)]
-    pub(crate) fn is_before_fault(&self) -> bool
-        requires course { (program : KeptProgram) × IsCourse program self.now }
-        ensures { (program : KeptProgram) → IsCourse program self.now → result ≡ true
-            → is_fault (slice_get program.listing.steps self.now.steps) ≡ true }
-    {
-        self.here.at != self.here.end && makes_errors(self.here.operation)
-    }
-
-    /// Goes over so many faults of the instruction that the place is inside.
-    #[inline(always)]
-    fn skip(&mut self, count: usize)
-        requires course { (program : KeptProgram) × IsCourse program self.old }
-        requires facing { self.old.here.at ≢ self.old.here.end }
-        requires errors { makes_errors self.old.here.operation ≡ true }
-        requires within { self.old.here.at + count ≤ self.old.here.end }
-        ensures course { (program : KeptProgram) → IsCourse program self.old → IsCourse program self.new }
-        ensures place { self.new.steps ≡ self.old.steps + count }
-        ensures passed { (program : KeptProgram) → IsCourse program self.old
-            → ArePassed program.listing.steps self.old.steps count }
-    {
-        self.text.fits();
-        self.here.at += count;
-        self.counts.faults += count as u32;
-        self.steps += count;
-    }
-
     /// Goes back over so many faults of the instruction that the place is inside.
     #[inline(always)]
     fn skip_back(&mut self, count: usize)
@@ -71,25 +43,6 @@ impl<'a, 'p, A: Allocator + Copy> Course<'a, 'p, A> {
         self.here.at -= count;
         self.counts.faults -= count as u32;
         self.steps -= count;
-    }
-
-    /// Goes over the faults that stand right after the place in one instruction, over `most` at most, and answers how many
-    /// these are.
-    #[inline(always)]
-    pub(crate) fn pass_faults(&mut self, most: usize) -> usize
-        requires course { (program : KeptProgram) × IsCourse program self.old }
-        ensures course { (program : KeptProgram) → IsCourse program self.old → IsCourse program self.new }
-        ensures place { self.new.steps ≡ self.old.steps + result }
-        ensures passed { (program : KeptProgram) → IsCourse program self.old
-            → PassesOver program.listing.steps self.old.steps most result }
-    {
-        if self.face_step() && makes_errors(self.here.operation) {
-            let count = most.min(self.here.end - self.here.at);
-            self.skip(count);
-            count
-        } else {
-            0
-        }
     }
 
     /// Goes back over the faults that stand right before the place in one instruction, over `most` at most, and answers how

@@ -4,7 +4,7 @@ ghost use Rattle.std.specs.Prelude.{◌+◌, ℕ};
 ghost use Rattle.circuit_walk.specs.Found.{IsFaultOf};
 ghost use Rattle.circuit_walk.specs.Programs.{KeptProgram};
 
-use crate::fault_walk::FoundFault;
+use crate::found_fault::FoundFault;
 use crate::program::Program;
 use std::alloc::Allocator;
 

@@ -3,7 +3,7 @@
 ghost use Rattle.std.specs.Prelude.{length};
 
 use crate::fault_taker::FaultTaker;
-use crate::fault_walk::fault_in;
+use crate::found_fault::fault_in;
 use crate::passes::take_all;
 use crate::program::Program;
 use crate::step::Step;

@@ -3,7 +3,7 @@
 ghost use Rattle.std.specs.Prelude.{◌≡◌, ◌+◌, ◌-◌, ◌<◌, ◌≤◌, ◌==◌, ℕ, Some, false, true, if◌then◌else◌, IfSome, None, length, nat_lt, option_map, slice_get, take};
 ghost use Rattle.circuit_walk.specs.Named.{IsStepOf};
 ghost use Rattle.circuit_walk.specs.Steps.{listed};
-ghost use Rattle.circuit_walk.specs.Walks.{PassesBack, PassesOver, is_fault};
+ghost use Rattle.circuit_walk.specs.Walks.{PassesBack, is_fault};
 ghost use Rattle.circuit_walk.specs.declared.step.Step.TheVariants as step;
 ghost use Rattle.step_model.specs.Listing.{Fault};
 ghost use Rattle.step_model.specs.WellFormed.{collapse_count, faults_named, records_made};
@@ -127,26 +127,6 @@ impl<'a, 'p, A: Allocator + Copy> Walk<'a, 'p, A> {
         ensures place { self.new.place ≡ self.old.place - 1 }
     {
         self.course.previous()
-    }
-
-    /// Whether a fault stands right after the place. At the end of an instruction's faults it may be missed.
-    #[inline(always)]
-    pub fn is_before_fault(&self) -> bool
-        ensures { result ≡ true
-            → is_fault (slice_get self.now.program.listing.steps self.now.place) ≡ true }
-    {
-        self.course.is_before_fault()
-    }
-
-    /// Goes forward over the faults of one instruction that stand right after the place, over `most` at most, and answers how
-    /// many these are.
-    #[inline(always)]
-    pub fn pass_faults(&mut self, most: usize) -> usize
-        ensures program { self.new.program ≡ self.old.program }
-        ensures place { self.new.place ≡ self.old.place + result }
-        ensures passed { PassesOver self.old.program.listing.steps self.old.place most result }
-    {
-        self.course.pass_faults(most)
     }
 
     /// Answers the fault before the place with the letters that it applies, and goes back over it. None where the step before

@@ -1,8 +1,8 @@
-//! The faults of a program in their order, as a walk over its steps meets them.
+//! A fault of a program, as a taker of faults gets it.
 
-ghost use Rattle.std.specs.Prelude.{◌≡◌, ◌∷◌, ℕ, [], None, IfSome, option_map};
+ghost use Rattle.std.specs.Prelude.{◌≡◌, ℕ, IfSome, option_map};
 ghost use Rattle.std.specs.Option.{option_to_list};
-ghost use Rattle.circuit_walk.specs.Found.{IsFaultOf, faults_left, number_in};
+ghost use Rattle.circuit_walk.specs.Found.{IsFaultOf, number_in};
 ghost use Rattle.circuit_walk.specs.Named.{IsFlip, IsStepOf};
 ghost use Rattle.circuit_walk.specs.Programs.{KeptProgram};
 ghost use Rattle.circuit_walk.specs.Steps.{listed};
@@ -10,8 +10,6 @@ ghost use Rattle.step_model.specs.WellFormed.{step_faults};
 
 use crate::letters::Letters;
 use crate::step::{FaultName, Step};
-use crate::walk::Walk;
-use std::alloc::Allocator;
 
 /// A fault of a program: its number, the number of its probability, and what it does where it happens: it flips a record, or it
 /// applies letters at qubits.
@@ -23,25 +21,6 @@ pub struct FoundFault<'c> {
     pub flips: Option<u32>,
     /// The letters that it applies; none where it flips a record.
     pub letters: Letters<'c>,
-}
-
-/// Goes forward over the next fault, and answers it; none where there is no further one.
-#[inline(always)]
-pub fn next_fault<'a, 'p, A: Allocator + Copy>(walk: &mut Walk<'a, 'p, A>) -> Option<FoundFault<'a>>
-    ensures program { walk.new.program ≡ walk.old.program }
-    ensures next { IfSome result (λ fault. faults_left walk.old
-        ≡ fault.number ∷ faults_left walk.new) }
-    ensures found { IfSome result (IsFaultOf walk.old.program) }
-    ensures end { result ≡ None → faults_left walk.old ≡ [] }
-    // No fault is left then after the place where the walk stands.
-    ensures stays { result ≡ None → faults_left walk.new ≡ [] }
-{
-    while let Some(step) = walk.next_step() {
-        if let Some(fault) = fault_in(step) {
-            return Some(fault);
-        }
-    }
-    None
 }
 
 /// The fault of a step.
