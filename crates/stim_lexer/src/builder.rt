@@ -165,7 +165,21 @@ impl<'a, O: Copy, T: Copy, A: Allocator + Copy> Builder<'a, O, T, A> {
         Ok(None)
     }
 
-    /// The same where the targets were read elsewhere, of which it keeps a copy.
+    /// Puts copies of targets in place of those that were read here, where a line says an instruction. Of a line that says
+    /// something else they may be those of a line before it. It fails only where memory runs out.
+    fn copy_targets(&mut self, said: &Said<'a, O>, targets: &[T]) -> Result<(), AllocError>
+        ensures targets { OnOk result ((line : ℕ)
+            → reading_in line said.now self.new.targets ≡ reading_in line said.now targets.now) }
+        ensures others { OnOk result (but_targets self.new ≡ but_targets self.old) }
+    {
+        self.targets.clear();
+        match said {
+            Said::Accepts { .. } => self.targets.extend(targets),
+            _ => Ok(()),
+        }
+    }
+
+    /// Does what `take_read` does, with targets that were read elsewhere. It keeps a copy of those of an instruction.
     pub fn take(
         &mut self,
         line: u64,
@@ -181,8 +195,7 @@ impl<'a, O: Copy, T: Copy, A: Allocator + Copy> Builder<'a, O, T, A> {
         ensures marks { IfOk result (λ refused. self.new.marks
             ≡ self.old.marks ++ line_marks said.entry mark) }
     {
-        self.targets.clear();
-        self.targets.extend(targets)?;
+        self.copy_targets(&said, targets)?;
         self.take_read(line, said, mark)
     }
 
