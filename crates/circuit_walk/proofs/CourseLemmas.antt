@@ -1,5 +1,5 @@
 -- The steps of a program over the instructions that make some: what a cursor over these has before it and what is left.
-use Rattle.std.proofs.Common.{◌≡◌, ◌+◌, ℕ, zero, suc, Bool, true, false, if◌then◌else◌, List, [], ◌∷◌, ◌++◌, length, Option, None, Some, option_map, refl, sym, ap, ap₂, ◌∙◌, append-nil, length-append, arith}
+use Rattle.std.proofs.Common.{◌≡◌, ◌+◌, ℕ, zero, suc, Bool, true, false, if◌then◌else◌, List, [], ◌∷◌, ◌++◌, length, Option, None, Some, option_map, refl, sym, ap, ap₂, ◌∙◌, append-nil, arith}
 use Rattle.std.specs.Prelude.{⊤, slice_get}
 use Rattle.std.specs.List.{filter}
 use Rattle.std.specs.Option.{option_or}
@@ -62,11 +62,6 @@ step_inside n before i rest k s got =
     get-before [] ys k s h = cc
     get-before (x ∷ xs) ys zero s h = h
     get-before (x ∷ xs) ys (suc k) s h = get-before xs ys k s h
-
-pub length_around : (n : ℕ) (before : List Instruction) (i : Instruction) (rest : List Instruction) → (more : ℕ) × (length (steps_of n (before ++ i ∷ rest)) ≡ length (steps_of n before) + length (new_steps n (state_after n at_start before) i) + more)
-length_around n before i rest =
-    let around = steps_around n before i rest in
-    (length around.0, ap length around.1 ∙ (length-append (steps_of n before) _ ∙ omega (arith, length-append (new_steps n (state_after n at_start before) i) around.0)))
 
 -- ---- instructions fit
 

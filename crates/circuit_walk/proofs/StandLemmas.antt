@@ -1,5 +1,5 @@
 -- What is known of the steps of an instruction at a place, by their operation.
-use Rattle.std.proofs.Common.{◌≡◌, ◌≢◌, ◌≤◌, ◌<◌, ◌+◌, ◌-◌, ◌*◌, ◌%◌, ◌==◌, ℕ, zero, suc, Bool, true, false, if◌then◌else◌, List, length, refl, sym, ap, ap₂, ◌∙◌, subst, arith}
+use Rattle.std.proofs.Common.{◌≡◌, ◌≢◌, ◌≤◌, ◌<◌, ◌+◌, ◌*◌, ◌%◌, ◌==◌, ℕ, zero, suc, Bool, true, false, if◌then◌else◌, List, length, refl, sym, ap, ap₂, ◌∙◌, subst, arith}
 use Rattle.std.specs.Prelude.{All}
 use Rattle.std.proofs.lemmas.Bool.{eqb-false, eqb-true}
 use Rattle.gate_table.proofs.Arity.{two_unless_one}
@@ -120,6 +120,3 @@ gate_before g at (suc k) place there =
 
 pub next_of_gate : (g : Gate) (at k : ℕ) → at ≡ arity_of g * k → at + arity_of g ≡ arity_of g * (k + 1)
 next_of_gate g at k place = omega (arith, place)
-
-pub last_of_gate : (g : Gate) (at k : ℕ) → at ≡ arity_of g * (k + 1) → at - arity_of g ≡ arity_of g * k
-last_of_gate g at k place = omega (arith, place)
