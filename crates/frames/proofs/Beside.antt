@@ -11,31 +11,15 @@ use Rattle.step_model.specs.Frames.{Frame, zero_coins}
 use Rattle.step_model.specs.Listing.{Listing, ListedStep, One, Two, Collapse, Fault, Feedback, Measured, Recorded, measured_word, step_records, is_collapse}
 use Rattle.step_model.specs.Runs.{RunState, next, next_coin, run_from, records_of, start}
 use Rattle.step_model.specs.WellFormed.{IsWellFormed, collapse_count, step_fits, records_made}
-use Rattle.run_laws.specs.Shifts.{flipped_by}
 use Rattle.run_laws.proofs.ShiftLists.{get_or-zeros}
 use Rattle.run_laws.proofs.ShiftWords.{anticommute-none}
 use Rattle.forward_sim.specs.References.{GoneOver, IsEntry, IsReferenceOf, IsStepEntry, ReferenceRun, StandBefore, said_of}
 use Rattle.forward_sim.proofs.RunRecords.{length-run_from}
 use Rattle.forward_sim.proofs.WordsSaid.{zeros_after}
+use Rattle.frames.specs.private.Beside.{Beside, Differ}
 use Rattle.frames.specs.private.Followed.{TurnsAt, followed}
 use Rattle.frames.specs.LaneFrames.{LaneFrames, GoesTo, frame_in}
-use Rattle.frames.proofs.FollowLaw.{Differ, collapse-decided, collapse-random, other-step}
-
--- one of the runs, in which these faults happen, with `coins` to come
-pub record IsShot (program : Listing) (faults coins : List Bool) (steps : List ListedStep) (coins_left : List Bool) (v : Frame) (m : RunState) : Type 0 where
-  pub run : RunState
-  pub differ : Differ program.qubits v m run
-  pub coins_are : run.coins ≡ coins_left
-  pub whole : (run_from program faults steps run).records ≡ records_of program faults coins
-
--- all of them, with the steps that are left, behind so many collapses
-pub record Beside (program : Listing) (reference : ReferenceRun) (faults coins : List ℕ) (steps : List ListedStep) (k : ℕ) (f : LaneFrames) : Type 0 where
-  pub m : RunState
-  pub stand : StandBefore program steps m k reference.words
-  pub counted : k + collapse_count steps ≡ program.collapses
-  pub zeros : (i : ℕ) → get_or m.coins i false ≡ false
-  pub whole : (run_from program [] steps m).records ≡ reference.records
-  pub shots : (j : ℕ) → IsShot program (lane j faults) (lane j coins) steps (drop k (lane j coins)) (frame_in j f) m
+use Rattle.frames.proofs.FollowLaw.{collapse-decided, collapse-random, other-step}
 
 -- at the start
 pub beside-start : (program : Listing) (reference : ReferenceRun) (faults coins : List ℕ) (f : LaneFrames) → IsWellFormed program → IsReferenceOf program reference
@@ -183,9 +167,3 @@ beside-room program reference faults coins step rest k f count before =
       (before.shots 0).differ.records_size,
       lists.length-map f.flips (lane_bit 0),
     )
-
--- behind the last step
-pub beside-end : (program : Listing) (reference : ReferenceRun) (faults coins : List ℕ) (k : ℕ) (f : LaneFrames) → Beside program reference faults coins [] k f
-    → (j : ℕ) → flipped_by (lane j f.flips) reference.records ≡ records_of program (lane j faults) (lane j coins)
-beside-end program reference faults coins k f before j =
-    ap (flipped_by (lane j f.flips)) (sym before.whole) ∙ sym (before.shots j).differ.records ∙ (before.shots j).whole

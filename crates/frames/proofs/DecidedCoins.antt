@@ -26,8 +26,9 @@ use Rattle.forward_sim.proofs.RunRecords.{all_fit}
 use Rattle.forward_sim.proofs.SameStates.{same-next}
 use Rattle.forward_sim.proofs.WordsSaid.{zeros_after}
 use Rattle.frames.specs.Batches.{DontCount}
+use Rattle.frames.specs.private.Beside.{Differ}
 use Rattle.frames.proofs.Beside.{collapse-differ}
-use Rattle.frames.proofs.FollowLaw.{Differ, decided-records, decided-states, other-step}
+use Rattle.frames.proofs.FollowLaw.{decided-records, decided-states, other-step}
 
 -- two runs are the same but for their coins to come
 abbrev SameButCoins : ℕ → RunState → RunState → Type 0

@@ -3,7 +3,6 @@ use Rattle.std.proofs.Common.{append-nil, ◌≡◌, ℕ, ◌||◌, ◌&&◌, no
 use Rattle.pauli_word.specs.declared.letter.Letter.{Letter}
 use Rattle.pauli_word.specs.Parity.{exclusive_or}
 use Rattle.pauli_word.specs.States.{State, applied, collapsed, correcting, is_decided, outcome}
-use Rattle.pauli_word.specs.Groups.{IsGroup}
 use Rattle.pauli_word.specs.Words.{Signed, anticommute, lone_letter, product, signed, with_sign_changed}
 use Rattle.pauli_word.proofs.Parities.{exclusive_or-false}
 use Rattle.pauli_word.proofs.WordLaws.{anticommute_comm}
@@ -15,23 +14,16 @@ use Rattle.step_model.specs.Sensitivities.{multiplied}
 use Rattle.step_model.specs.WellFormed.{step_fits}
 use Rattle.step_model.proofs.StateIsGroup.{length-measured}
 use Rattle.step_model.proofs.StepNumbers.{length-word_of_terms}
-use Rattle.run_laws.specs.Shifts.{flipped_by, carried_with, flip_at, IsShifted, DifferByFrame}
+use Rattle.run_laws.specs.Shifts.{flipped_by, carried_with, flip_at, DifferByFrame}
 use Rattle.run_laws.specs.ShiftedWords.{multiplied_by}
 use Rattle.run_laws.proofs.PairRuns.{with_coins, same-collapse}
 use Rattle.run_laws.proofs.ShiftCollapse.{is_decided-shifted}
 use Rattle.run_laws.proofs.ShiftSteps.{anticommute-multiplied, next-differ}
 use Rattle.run_laws.proofs.ShiftedWords.{frame_product}
+use Rattle.frames.specs.private.Beside.{Differ}
 use Rattle.frames.specs.private.Followed.{turned, followed}
 
--- two runs between two steps, whatever their coins to come, differ by a frame
-pub record Differ (n : ℕ) (v : Frame) (m m' : RunState) : Type 0 where
-  pub size : length v.word ≡ n
-  pub group : IsGroup n m.state
-  pub states : IsShifted n v.word m.state m'.state
-  pub records_size : length v.records ≡ length m.records
-  pub records : m'.records ≡ flipped_by v.records m.records
-
--- as they do with the coins that a law wants
+-- two runs that differ by a frame do so with the coins that a law wants
 with_law_coins : (n : ℕ) (v : Frame) (flips : List Bool) (m m' : RunState) → Differ n v m m' → DifferByFrame n v flips (with_coins m []) (with_coins m' (flipped_by flips []))
 with_law_coins n v flips m m' d = record {
   size = d.size;

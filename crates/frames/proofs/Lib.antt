@@ -18,3 +18,5 @@ pub mod ShownLemmas
 pub mod TextLemmas
 pub mod QuietFaults
 pub mod QuietBeside
+pub mod CarryingFrames
+pub mod FollowingFrames

@@ -7,3 +7,5 @@ pub mod Octets
 pub mod ShownRuns
 pub mod WritesShots
 pub mod Quiet
+pub mod Beside
+pub mod Takers

@@ -1,3 +1,4 @@
+//! 64 runs of a program that follow its reference run.
 ghost use Rattle.std.specs.Prelude.{◌≡◌, ℕ, length};
 ghost use Rattle.forward_sim.specs.References.{IsReferenceOf, StandBefore};
 ghost use Rattle.bit_rows.specs.Lanes.{lane};
@@ -7,11 +8,61 @@ ghost use Rattle.step_model.specs.Runs.{records_of, start};
 ghost use Rattle.frames.specs.Batches.{AreAtStart};
 
 use crate::frames::Frames;
-use crate::quiet::pass_quiet;
+use crate::quiet::quiet_count;
 use crate::steps::{carry_over, take_step, word_at};
-use circuit_walk::{Program, Walk};
+use circuit_walk::{Program, Step, StepTaker, take_all};
 use forward_sim::Reference;
 use std::alloc::Allocator;
+
+/// Frames of 64 runs beside their reference run, behind so many collapses. Where `still` all of them are I.
+#[derive(Drop)]
+struct Following<'r, A: Allocator + Copy> {
+    frames: &'r mut Frames<A>,
+    reference: &'r mut Reference<A>,
+    faults: &'r [u64],
+    coins: &'r [u64],
+    collapse: usize,
+    still: bool,
+}
+
+impl<'r, A: Allocator + Copy> StepTaker<A> for Following<'r, A> {
+    ghost use Rattle.std.specs.Prelude.{◌≡◌};
+    ghost use Rattle.frames.specs.private.Takers.{IsFollowing};
+
+    ghost stands = { λ program begun k run. (run.frames.ghost_name ≡ begun.frames.ghost_name)
+        × (run.reference.ghost_name ≡ begun.reference.ghost_name)
+        × IsFollowing program.listing begun.faults.now begun.coins.now k
+        run.faults.now run.coins.now run.collapse run.still run.frames.now run.reference.now };
+
+    #[inline(always)]
+    fn take(&mut self, program: &Program<'_, A>, step: Step<'_>) {
+        program.well_formed();
+        let _collapses = program.collapse_count();
+        self.reference.go_over(program, &step);
+        if step.is_collapse() {
+            let replaced = self.reference.replaced(self.collapse);
+            take_step(
+                self.frames,
+                program,
+                self.faults,
+                replaced,
+                word_at(self.coins, self.collapse),
+                step,
+            );
+            self.collapse += 1;
+            self.still = false;
+        } else {
+            self.still = carry_over(self.frames, program, self.faults, self.still, step);
+        }
+    }
+
+    // A fault that doesn't happen leaves the reference run as it is too.
+    #[inline(always)]
+    fn pass_faults(&mut self, program: &Program<'_, A>, first: u32, count: usize) -> usize {
+        program.well_formed();
+        quiet_count(self.faults, first, count)
+    }
+}
 
 /// Takes the frames of 64 runs over all steps of a program, beside its reference run.
 pub(crate) fn follow_steps<A: Allocator + Copy>(
@@ -36,31 +87,13 @@ pub(crate) fn follow_steps<A: Allocator + Copy>(
         ≡ records_of program.now.listing (lane j faults.now) (lane j coins.now) }
 {
     program.well_formed();
-    let _collapses = program.collapse_count();
-    let mut walk = Walk::start(program);
-    let mut collapse = 0;
-    // whether all frames are I, as at the start
-    let mut still = true;
-    // no fault ahead with a lower number happens in any run
-    let mut hit = 0;
-    while let Some(step) = walk.next_step() {
-        reference.go_over(program, &step);
-        if step.is_collapse() {
-            let replaced = reference.replaced(collapse);
-            take_step(
-                frames,
-                program,
-                faults,
-                replaced,
-                word_at(coins, collapse),
-                step,
-            );
-            collapse += 1;
-            still = false;
-        } else {
-            still = carry_over(frames, program, faults, still, step);
-            // A fault that doesn't happen leaves the reference run as it is too.
-            pass_quiet(&mut walk, faults, &mut hit, step);
-        }
-    }
+    let mut following = Following {
+        frames,
+        reference,
+        faults,
+        coins,
+        collapse: 0,
+        still: true,
+    };
+    take_all(program, &mut following);
 }

@@ -20,6 +20,7 @@ use std::alloc::Allocator;
 
 /// Takes the frames of 64 runs over a step of a program. Lane j of `faults` says which faults happen in run j. At a
 /// collapse, `coins` has a coin for each run, and `replaced` is what the reference run keeps of the collapse.
+#[inline(always)]
 pub(crate) fn take_step<A: Allocator + Copy>(
     frames: &mut Frames<A>,
     program: &Program<'_, A>,
@@ -189,6 +190,7 @@ fn turn<A: Allocator + Copy>(
 }
 
 // The runs in which the fault that flips a record happens, if there is such a fault.
+#[inline(always)]
 fn flips_of(faults: &[u64], flip: Option<FaultName>) -> u64
     ensures { (j : ℕ)
         → lane_bit j result ≡ flip_happens (lane j faults.now) (option_map number_of flip) }
@@ -200,6 +202,7 @@ fn flips_of(faults: &[u64], flip: Option<FaultName>) -> u64
 }
 
 /// The word at an index, 0 past the end.
+#[inline(always)]
 pub(crate) fn word_at(words: &[u64], index: usize) -> u64
     ensures { (j : ℕ) → lane_bit j result ≡ slice_index_or (lane j words.now) index false }
 {
