@@ -7,6 +7,5 @@ pub mod FactorTextLemmas
 pub mod BlockLemmas
 pub mod SpanLemmas
 pub mod EffectLemmas
-pub mod LineLemmas
 pub mod HeldLineLemmas
 pub mod ShortLineLemmas

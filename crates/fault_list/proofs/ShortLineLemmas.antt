@@ -68,17 +68,20 @@ ordered_until terms i from more stops =
       ]
     ]
 
-pub ordered_more : (terms : List Term) (i from : ℕ) → i < length terms → from ≤ (term_at terms i).qubit → not (is_I (term_at terms i).letter) ≡ true → is_ordered from (drop i terms) ≡ is_ordered ((term_at terms i).qubit + 1) (drop (i + 1) terms)
-ordered_more terms i from more after acts =
-    let term = term_at terms i in
-    let rest = is_ordered (term.qubit + 1) (drop (i + 1) terms) in
-    ap (is_ordered from) (drop_more terms i no_term more)
-    ∙ elim (leb_tells (suc term.qubit) from) [
+pub ordered_next : (term : Term) (terms : List Term) (from : ℕ) → from ≤ term.qubit → not (is_I term.letter) ≡ true → is_ordered from (term ∷ terms) ≡ is_ordered (term.qubit + 1) terms
+ordered_next term terms from after acts =
+    let rest = is_ordered (term.qubit + 1) terms in
+    elim (leb_tells (suc term.qubit) from) [
       | inl below ↦ absurd (omega (arith, below.1, after))
       | inr tells ↦
           ap (λ b. if b then false else if is_I term.letter then false else rest) tells.0
           ∙ ap (λ b. if b then false else rest) (not-true (is_I term.letter) acts)
     ]
+
+pub ordered_more : (terms : List Term) (i from : ℕ) → i < length terms → from ≤ (term_at terms i).qubit → not (is_I (term_at terms i).letter) ≡ true → is_ordered from (drop i terms) ≡ is_ordered ((term_at terms i).qubit + 1) (drop (i + 1) terms)
+ordered_more terms i from more after acts =
+    ap (is_ordered from) (drop_more terms i no_term more)
+    ∙ ordered_next (term_at terms i) (drop (i + 1) terms) from after acts
 
 letter_in-other : (term : Term) (terms : List Term) (q : ℕ) → term.qubit ≢ q → letter_in (term ∷ terms) q ≡ letter_in terms q
 letter_in-other term terms q other = elim (eqb_tells term.qubit q) [

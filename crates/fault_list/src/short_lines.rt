@@ -1,5 +1,5 @@
 //! Short lines, put into a buffer one after another.
-ghost use Rattle.std.specs.Prelude.{◌≡◌, ℕ, ◌≤◌, ◌+◌, ◌*◌, ◌∷◌, ◌++◌, [], None, codes, decimal, length, take, IfSome};
+ghost use Rattle.std.specs.Prelude.{◌≡◌, ℕ, ◌≤◌, ◌+◌, ◌-◌, ◌*◌, ◌∷◌, ◌++◌, [], None, codes, decimal, length, take, IfSome};
 ghost use Rattle.circuit_walk.specs.Found.{IsFaultOf};
 ghost use Rattle.circuit_walk.specs.Letters.{AreSmall, letters_in};
 ghost use Rattle.step_model.specs.Listing.{effect_at, word_of_terms};
@@ -24,6 +24,9 @@ const SHORT_TERMS: usize = 16;
 
 /// How long a short line is at most, with what is copied behind it.
 const LINE: usize = 256;
+
+/// How much room a factor is put in.
+const FACTOR: usize = 18;
 
 /// How long the word of a short line is at most: twelve bytes for each term.
 const WORD: usize = 192;
@@ -57,14 +60,14 @@ pub(crate) fn put_line<'t, 'a, A: Allocator + Copy>(
     buffer: &mut [u8],
     at: usize,
     texts: &mut KeptTexts<'t, 'a>,
-    program: &Program<'a, A>,
+    program: &Program<'_, A>,
     fault: FoundFault<'_>,
 ) -> Option<usize>
     requires room { at + LINE ≤ length buffer.old }
     requires fault { IsFaultOf program.now fault }
     requires texts { texts.old.probability.chances ≡ program.now.chances }
     ensures same { texts.new.probability.chances ≡ texts.old.probability.chances }
-    ensures within { IfSome result (λ end. end ≤ at + LINE) }
+    ensures within { IfSome result (λ end. end ≤ length buffer.new) }
     ensures written { IfSome result (λ end. take end buffer.new
         ≡ take at buffer.old ++ fault_line program.now.listing fault.entry.number) }
     ensures kept { result ≡ None → take at buffer.new ≡ take at buffer.old }
@@ -81,13 +84,13 @@ fn put_effect<'t, 'a, A: Allocator + Copy>(
     buffer: &mut [u8],
     at: usize,
     texts: &mut KeptTexts<'t, 'a>,
-    program: &Program<'a, A>,
+    program: &Program<'_, A>,
     fault: FoundFault<'_>,
 ) -> Option<usize>
     requires room { at + WORD + 8 ≤ length buffer.old }
     requires fault { IsFaultOf program.now fault }
     ensures same { texts.new.probability.chances ≡ texts.old.probability.chances }
-    ensures put { Puts WORD at
+    ensures put { Puts (length buffer.old - (at + 6)) at
         (effect_text program.now.listing.qubits
         (effect_at program.now.listing fault.entry.number))
         buffer.old buffer.new result }
@@ -116,7 +119,7 @@ fn put_word(buffer: &mut [u8], at: usize, names: &QubitNames, terms: Letters<'_>
     requires room { at + WORD + 8 ≤ length buffer.old }
     requires small { AreSmall terms }
     ensures { (qubits : ℕ) → TermsFit qubits (letters_in terms.entry)
-        → Puts WORD at (word_text (word_of_terms qubits (letters_in terms.entry)))
+        → Puts (length buffer.old - (at + 6)) at (word_text (word_of_terms qubits (letters_in terms.entry)))
         buffer.old buffer.new result }
 {
     let (first, more) = terms.split_first()?;
@@ -124,7 +127,7 @@ fn put_word(buffer: &mut [u8], at: usize, names: &QubitNames, terms: Letters<'_>
         None => put_ordered(buffer, at, names, &[first]),
         Some((second, rest)) => match rest.split_first() {
             None => put_two(buffer, at, names, first, second),
-            Some(_) => put_more(buffer, at, names, terms),
+            Some(_) => put_more(buffer, at, names, first, more),
         },
     }
 }
@@ -150,41 +153,37 @@ fn put_two(
     }
 }
 
-// The same of more of them, by a copy. It answers none too where they are many.
+// The same of one term and those behind it, letter by letter. It answers none where their qubits don't ascend, where one of them
+// is I, or where there is no room for all.
 #[inline(never)]
-fn put_more(buffer: &mut [u8], at: usize, names: &QubitNames, terms: Letters<'_>) -> Option<usize>
+fn put_more(
+    buffer: &mut [u8],
+    at: usize,
+    names: &QubitNames,
+    first: Term,
+    more: Letters<'_>,
+) -> Option<usize>
     requires room { at + WORD + 8 ≤ length buffer.old }
-    requires small { AreSmall terms }
-    ensures { (qubits : ℕ) → TermsFit qubits (letters_in terms.entry)
-        → Puts WORD at (word_text (word_of_terms qubits (letters_in terms.entry)))
+    requires small { AreSmall more }
+    ensures { (qubits : ℕ) → TermsFit qubits (first ∷ letters_in more.entry)
+        → Puts (length buffer.old - (at + 6)) at (word_text (word_of_terms qubits (first ∷ letters_in more.entry)))
         buffer.old buffer.new result }
 {
-    let none = Term {
-        qubit: 0,
-        letter: Letter::I,
-    };
-    let mut copies = [none; SHORT_TERMS];
-    let count = copy_terms(&mut copies, terms)?;
-    put_ordered(buffer, at, names, &copies[..count])
-}
-
-// Copies terms to the start of a buffer, and answers how many they are; none where there is no room for all.
-fn copy_terms(copies: &mut [Term], terms: Letters<'_>) -> Option<usize>
-    requires { AreSmall terms }
-    ensures within { IfSome result (λ count. count ≤ length copies.old) }
-    ensures copied { IfSome result (λ count. take count copies.new ≡ letters_in terms.entry) }
-{
-    let mut count = 0;
-    let mut left = terms;
+    if !acts(first.letter) {
+        return None;
+    }
+    let mut end = put_factor(buffer, at, names, first);
+    let mut last = first.qubit;
+    let mut left = more;
     while let Some((term, rest)) = left.split_first() {
-        if count == copies.len() {
+        if term.qubit <= last || !acts(term.letter) || buffer.len() - end < FACTOR {
             return None;
         }
-        copies[count] = term;
-        count += 1;
+        end = put_starred(buffer, end, names, term);
+        last = term.qubit;
         left = rest;
     }
-    Some(count)
+    Some(end)
 }
 
 // Puts the word of terms at ascending qubits. It answers none where there are no terms, where their qubits don't ascend,

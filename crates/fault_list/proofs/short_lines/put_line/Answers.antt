@@ -1,10 +1,10 @@
-use Rattle.std.proofs.Common.{List, take, refl, ap, ◌∙◌, arith}
+use Rattle.std.proofs.Common.{◌≤◌, List, take, refl, ap, ◌∙◌, arith}
 use Rattle.std.specs.Prelude.{decimal}
 use Rattle.step_model.specs.Chances.{chance_at}
 use Rattle.step_model.specs.Listing.{effect_at}
 use Rattle.step_model.specs.declared.chances.ChanceText.{ChanceText}
 use Rattle.fault_list.specs.FaultLines.{effect_text}
-use Rattle.fault_list.proofs.PutLemmas.{before_kept, line_put}
+use Rattle.fault_list.proofs.PutLemmas.{before_kept, kept_before, line_put}
 use Rattle.fault_list.proofs.short_lines.put_line.Goals as goal
 
 pub returns-in_err-end-2-clause-kept : goal.returns-in_err-end-2-clause-kept
@@ -12,7 +12,8 @@ returns-in_err-end-2-clause-kept g c =
     let at = c.args.at in
     let number = c.put-end.result in
     let first = before_kept number c.in_ok-end.end c.put.new.buffer c.put-end.new.buffer _ c.in_ok-end.ensures.from (omega (arith, c.put-end.auto.buffer, c.put-end.ensures.within, c.requires.room)) c.in_ok-end.ensures.put.written in
-    λ none. ap (take at) (c.in_err-end-2.ensures.put.kept refl)
+    let after : at ≤ c.in_ok-end.end = omega (arith, c.put-end.ensures.from, c.in_ok-end.ensures.from) in
+    λ none. kept_before at c.in_ok-end.end _ c.put.new.buffer after (c.in_err-end-2.ensures.put.kept refl)
     ∙ before_kept at number c.put.new.buffer c.args.buffer.now (decimal c.args.fault.number) c.put-end.ensures.from (omega (arith, c.requires.room)) (first ∙ c.put-end.ensures.written)
 
 pub returns-clause-written : goal.returns-clause-written
