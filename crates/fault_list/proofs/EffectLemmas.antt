@@ -5,7 +5,7 @@ use Rattle.std.proofs.lemmas.List.Elements.{All-nil}
 use Rattle.step_model.specs.declared.step.Term.{Term}
 use Rattle.step_model.specs.Listing.{Effect, Applies, Flips, effect_at, no_effect, word_of_terms}
 use Rattle.step_model.specs.WellFormed.{EffectFits, IsWellFormed, TermsFit}
-use Rattle.circuit_walk.specs.declared.fault_walk.FoundFault.{FoundFault}
+use Rattle.circuit_walk.specs.declared.found_fault.FoundFault.{FoundFault}
 use Rattle.circuit_walk.specs.Found.{IsFaultOf, effect_terms, flipped_record}
 use Rattle.circuit_walk.specs.Letters.{letters_in}
 use Rattle.circuit_walk.specs.Programs.{KeptProgram}
