@@ -1,6 +1,6 @@
 //! The probabilities that the faults of a text name. Each has the text that stands in the circuit, byte for byte, and its bound;
 //! one whose text stands there again has the number of the first.
-use circuit_walk::{Program, Walk, next_fault};
+use circuit_walk::{FaultTaker, FoundFault, Program, take_faults};
 use std::alloc::Global;
 use std::test::Fail;
 use unroll::read_program;
@@ -47,21 +47,32 @@ fn are_chances(program: &Program<'_, Global>) -> bool {
     all
 }
 
-/// Goes over the next fault. Whether it has the probability with this number.
-fn is_next(walk: &mut Walk<'_, '_, Global>, number: u32) -> bool {
-    match next_fault(walk) {
-        Some(fault) => fault.chance == number,
-        None => false,
+/// What compares the number and the probability of each fault that it takes with those of the next one.
+#[derive(Drop)]
+struct Comparing {
+    taken: usize,
+    same: bool,
+}
+
+impl FaultTaker<Global> for Comparing {
+    ghost use Rattle.std.specs.Prelude.{⊤};
+
+    ghost stands = { λ program begun n comparing. ⊤ };
+
+    fn take(&mut self, _program: &Program<'_, Global>, fault: FoundFault<'_>) {
+        self.same &= (fault.number as usize == self.taken)
+            & (NAMED.get(self.taken).copied() == Some(fault.chance));
+        self.taken = self.taken.saturating_add(1);
     }
 }
 
 fn are_named(program: &Program<'_, Global>) -> bool {
-    let mut walk = Walk::start(program);
-    let mut all = true;
-    for number in NAMED {
-        all &= is_next(&mut walk, number);
-    }
-    all & next_fault(&mut walk).is_none()
+    let mut comparing = Comparing {
+        taken: 0,
+        same: true,
+    };
+    take_faults(program, &mut comparing);
+    comparing.same && comparing.taken == NAMED.len()
 }
 
 #[test]
