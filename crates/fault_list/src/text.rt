@@ -110,7 +110,8 @@ impl<'s, 't, 'a, A: Allocator + Copy, W: Sink> FaultTaker<A> for Listing<'s, 't,
 }
 
 // Writes a line after those that are held in the buffer, and answers how much is held then. Short lines go out together.
-#[inline(always)]
+// It stays apart, so that the loop over faults is small enough to be made for each operation.
+#[inline(never)]
 fn write_line<'t, 'a, A: Allocator + Copy, W: Sink>(
     out: &mut Pieces,
     sink: &mut W,

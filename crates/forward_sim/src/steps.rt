@@ -59,8 +59,9 @@ pub(crate) fn take_step<A: Allocator + Copy>(
 }
 
 // Measures a letter at a qubit, resets the qubit where `reset`, and records the outcome, inverted where `changes`, where
-// there is a number for it.
-#[inline(always)]
+// there is a number for it. (This and what follows stay apart, so that a loop over steps is small enough to be made for each
+// operation.)
+#[inline(never)]
 fn collapse<A: Allocator + Copy>(
     machine: &mut Machine<'_, A>,
     letter: Letter,
@@ -101,6 +102,7 @@ fn end_collapse<A: Allocator + Copy>(
 }
 
 // Applies the letters of a fault, where it happens.
+#[inline(never)]
 fn take_fault<A: Allocator + Copy>(
     machine: &mut Machine<'_, A>,
     faults: &[bool],
@@ -121,6 +123,7 @@ fn take_fault<A: Allocator + Copy>(
 }
 
 // Applies a letter at a qubit, where a record is 1.
+#[inline(never)]
 fn feed_back<A: Allocator + Copy>(
     machine: &mut Machine<'_, A>,
     letter: Letter,
