@@ -1,4 +1,3 @@
-// FROM THE LEAD: read /work/tmp/w4/NOTE-FROM-LEAD.md (the trait StepTaker has changed at 00:05), then delete this line.
 //! The lines of the faults, on their way to a sink.
 ghost use Rattle.std.specs.Prelude.{◌≡◌, ◌≤◌, decimal, length, take, IfErr, OnOk, OnErr};
 ghost use Rattle.step_model.specs.Ends.{Takes, TakesBeginning, write_failures};
