@@ -56,7 +56,8 @@ pub fn write<'a, A: Allocator + Copy, W: Sink>(
     out.finish(sink)
 }
 
-/// How long a buffer for lines is.
+/// How long a buffer for lines is: behind the last place where a line begins there is room for one with a letter at each of
+/// 4,096 qubits.
 const ROOM: usize = 45056;
 
 /// Where a short line begins in it at most: lines go out together once they are longer than what `Pieces` holds back, so
