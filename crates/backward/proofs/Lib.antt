@@ -2,6 +2,7 @@ mod AnswerLemmas
 pub mod Judging
 pub mod ClearLines
 pub mod GrownLists
+mod HeldDetectorLemmas
 mod HeldLines
 mod LentHits
 pub mod LinesTurned

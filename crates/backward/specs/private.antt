@@ -1,5 +1,6 @@
 pub mod Answered
 pub mod Collapses
+pub mod HeldDetectors
 pub mod MovedTargets
 pub mod Numbered
 pub mod Passes

@@ -12,12 +12,11 @@ use crate::line_store::ModelStore;
 use crate::pass::steps_back;
 use crate::places::random_target;
 use crate::point::Point;
-use circuit_walk::{Program, Walk};
+use circuit_walk::{CoordinateTaker, Program, Walk, take_coordinates};
 use error_models::Model;
 use flat_lists::FlatLists;
 use std::alloc::{AllocError, Allocator};
 use step_model::{Fault, Place};
-use target_lists::DetectorCoordinates;
 use trackers::Tracker;
 
 /// What an analysis answers.
@@ -122,6 +121,30 @@ fn answer<'a, A: Allocator + Copy>(
     }
 }
 
+// What takes the coordinates of a program's detectors into lists. Once memory has run out it takes none.
+struct Gathering<A: Allocator + Copy> {
+    lists: FlatLists<i64, A>,
+    failed: bool,
+}
+
+impl<A: Allocator + Copy> CoordinateTaker<A> for Gathering<A> {
+    ghost use Rattle.std.specs.Prelude.{◌≡◌, false, take};
+
+    // As long as there is memory, the lists are the coordinates of so many detectors.
+    ghost stands = { λ program begun d gathering.
+        gathering.failed ≡ false → gathering.lists ≡ take d program.listing.coordinates };
+
+    fn take(&mut self, _program: &Program<'_, A>, coordinates: &[i64]) {
+        if self.failed {
+            return;
+        }
+        match self.lists.push(coordinates) {
+            Ok(()) => {}
+            Err(_) => self.failed = true,
+        }
+    }
+}
+
 fn coordinates_of<'a, A: Allocator + Copy>(
     alloc: A,
     program: &Program<'a, A>,
@@ -130,10 +153,14 @@ fn coordinates_of<'a, A: Allocator + Copy>(
     ensures each { length program.now.listing.coordinates ≡ length program.now.listing.detectors }
 {
     program.well_formed();
-    let coordinates = DetectorCoordinates::of(alloc, program)?;
-    let mut lists = FlatLists::new(alloc);
-    for detector in 0..program.detector_count() {
-        lists.push(coordinates.get(detector).as_slice())?;
+    let mut gathering = Gathering {
+        lists: FlatLists::new(alloc),
+        failed: false,
+    };
+    take_coordinates(program, &mut gathering);
+    let Gathering { lists, failed } = gathering;
+    if failed {
+        return Err(AllocError);
     }
     Ok(lists)
 }

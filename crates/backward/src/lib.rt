@@ -4,6 +4,7 @@
 
 mod analysis;
 mod collapse;
+mod declarations;
 mod faults;
 mod found;
 mod letters;

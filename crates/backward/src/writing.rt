@@ -1,8 +1,6 @@
 //! The text of a program's error model, written to a sink.
-ghost use Rattle.std.specs.Prelude.{◌≡◌, ◌≤◌, ◌-◌, ◌⊎◌, ◌++◌, [], false, true, length, slice_index_or, IfOk, IfErr, IfNone, IfSome, OnErr};
-ghost use Rattle.std.specs.List.{flat_map, range_with_len};
-ghost use Rattle.error_models.specs.ModelText.{detector_text, detectors_text, model_text, observables_text};
-ghost use Rattle.step_model.specs.Pushed.{Pushes};
+ghost use Rattle.std.specs.Prelude.{◌≡◌, ◌⊎◌, [], false, true, length, IfOk, IfErr, IfNone, IfSome, OnErr};
+ghost use Rattle.error_models.specs.ModelText.{model_text};
 ghost use Rattle.step_model.specs.Ends.{Takes, TakesSome, write_failures};
 ghost use Rattle.step_model.specs.Faults.{memory_fault, write_fault};
 ghost use Rattle.step_model.specs.HitModels.{model_of};
@@ -13,19 +11,16 @@ ghost use Rattle.backward.specs.private.Answered.{Answers, PushesAnswer};
 ghost use Rattle.backward.specs.private.Passes.{IsPassed};
 ghost use Rattle.backward.specs.private.Segments.{AreWhole};
 
+use crate::declarations::push_declarations;
 use crate::found::Found;
 use crate::places::random_target;
 use crate::point::Point;
 use crate::segments::{push_kept, write_segments};
 use crate::text_store::TextStore;
 use crate::whole::{Whole, cut_whole};
-use arrayvec::ArrayVec;
 use circuit_walk::{Program, Walk};
-use error_models::{DetectorLines, MOST_LINES, push_observable};
-use record_targets::target_count;
 use std::alloc::{AllocError, Allocator};
 use step_model::{Fault, Pieces, Place, Sink};
-use target_lists::DetectorCoordinates;
 use trackers::Tracker;
 
 /// The room for the text of error lines. Up to five times as many bytes are held where that is all of it, else a quarter as
@@ -133,8 +128,6 @@ fn push_parts<'s, 'p, 'a, A: Allocator + Copy, T: Tracker, W: Sink>(
     match random_target(program, &mut at.tracker, found)? {
         Some(random) => Ok(Some(random)),
         None => {
-            // First, so that nothing is pushed where there is no memory for them.
-            let coordinates = DetectorCoordinates::of(*found.alloc, program)?;
             found.settled = true;
             let Whole {
                 mut segments,
@@ -145,76 +138,8 @@ fn push_parts<'s, 'p, 'a, A: Allocator + Copy, T: Tracker, W: Sink>(
             write_segments(program, cut, &mut segments, at, found, lines, out, sink)?;
             push_kept(program, cut, &turns, lines, out, sink)?;
             end.push_to(out, sink);
-            push_declarations(program, &coordinates, out, sink);
+            push_declarations(program, out, sink);
             Ok(None)
         }
-    }
-}
-
-// Pushes the lines of the detectors and the observables.
-fn push_declarations<'a, A: Allocator + Copy, W: Sink>(
-    program: &Program<'a, A>,
-    coordinates: &DetectorCoordinates<A>,
-    out: &mut Pieces,
-    sink: &mut W,
-)
-    requires { coordinates.now ≡ program.now.listing.coordinates }
-    ensures { Pushes W.taken W.failures sink.old sink.new out.old out.new
-        (detectors_text (model_of program.now.listing)
-        ++ observables_text (model_of program.now.listing)) }
-{
-    push_detectors(program, coordinates, out, sink);
-    for observable in 0..program.observable_count() {
-        push_observable(out, sink, observable);
-    }
-}
-
-fn push_detectors<'a, A: Allocator + Copy, W: Sink>(
-    program: &Program<'a, A>,
-    coordinates: &DetectorCoordinates<A>,
-    out: &mut Pieces,
-    sink: &mut W,
-)
-    requires { coordinates.now ≡ program.now.listing.coordinates }
-    ensures { Pushes W.taken W.failures sink.old sink.new out.old out.new
-        (detectors_text (model_of program.now.listing)) }
-{
-    let count = program.detector_count();
-    let mut lines = DetectorLines::new();
-    let mut done = 0;
-    while done < count {
-        let next = done + MOST_LINES.min(count - done);
-        put_detectors(program, coordinates, done, next, &mut lines);
-        lines.push_to(out, sink);
-        done = next;
-    }
-}
-
-// Puts the lines of detectors from one on, the last first.
-fn put_detectors<'a, A: Allocator + Copy>(
-    program: &Program<'a, A>,
-    coordinates: &DetectorCoordinates<A>,
-    from: usize,
-    to: usize,
-    lines: &mut DetectorLines,
-)
-    requires given { coordinates.now ≡ program.now.listing.coordinates }
-    requires ordered { from ≤ to }
-    requires within { to ≤ length program.now.listing.detectors }
-    requires room { to - from ≤ lines.old.room }
-    requires none { lines.old.text ≡ [] }
-    ensures { lines.new.text
-        ≡ flat_map
-        (λ d. detector_text d (slice_index_or (model_of program.now.listing).coordinates d []))
-        (range_with_len from (to - from)) }
-{
-    let _few = target_count(program);
-    program.well_formed();
-    let mut stated = ArrayVec::new();
-    let mut left = to;
-    while left > from {
-        left -= 1;
-        coordinates.put(left, &mut stated);
-        lines.put(left as u32, stated.as_slice());
     }
 }

@@ -1,5 +1,5 @@
 -- A course back over the step before its place.
-use Rattle.std.proofs.Common.{◌≡◌, ◌≤◌, ◌<◌, ◌+◌, ◌⊎◌, inl, inr, ℕ, zero, suc, length, get_or, Some, refl, sym, ap, ◌∙◌, subst, arith}
+use Rattle.std.proofs.Common.{◌≡◌, ◌≢◌, ◌≤◌, ◌<◌, ◌+◌, ◌-◌, ◌⊎◌, inl, inr, ℕ, zero, suc, length, get_or, Some, refl, sym, ap, ◌∙◌, subst, arith}
 use Rattle.std.specs.Prelude.{slice_get}
 use Rattle.std.proofs.lemmas.Bool.{cases_lt}
 use Rattle.std.proofs.lemmas.Option.{slice_get-get_or, slice_get_within}
@@ -18,8 +18,8 @@ use Rattle.circuit_walk.specs.Makes.{makes_faults, makes_records, one_if}
 use Rattle.circuit_walk.specs.private.Walks.{AreCountsAt, is_step_maker, state_at, steps_of}
 use Rattle.circuit_walk.proofs.CountLemmas.{MakesAs}
 use Rattle.circuit_walk.proofs.EndLemmas.{ends}
-use Rattle.circuit_walk.proofs.PlaceCounts.{counted_before, counts_of}
-use Rattle.circuit_walk.proofs.TakeLemmas.{InsideOf, inside_behind, makes_own, step_at}
+use Rattle.circuit_walk.proofs.PlaceCounts.{counted_before, counts_are as are_counts, counts_of}
+use Rattle.circuit_walk.proofs.TakeLemmas.{InsideOf, goes_on, inside_behind, is_inside_behind, makes_own, step_at}
 
 -- a place behind the start is behind a step
 pub behind_some : {A : Type 0} (program : KeptProgram) (c : Course A) → IsCourse program c → 0 < c.here.at → (h : InsideOf program c) → (k : ℕ) × (h.k ≡ k + 1)
@@ -112,3 +112,31 @@ below program c back at place =
     by_order : {count : ℕ} → (at < c.here.end) ⊎ (c.here.end ≤ at) → (c.here.end ≤ at → back.k ≡ count) → back.k < count → at < c.here.end
     by_order (inl lt) over there = lt
     by_order (inr le) over there = absurd (omega (arith, over le, there))
+
+-- so the course stands there
+module _ {A : Type 0} (program : KeptProgram) (c : Course A) (course : IsCourse program c) (facing : 0 < c.here.at) (at : ℕ) (counts : Counts)
+    (place : (k : ℕ) (i : Instruction) → AreStepsOf i c.here → IsAt i.operation i.targets c.here.at (k + 1) → IsAt i.operation i.targets at k)
+    (before : (d : Counts) → c.counts ≡ counts_behind c.here.operation c.here.flips d → counts ≡ d) where
+  pub is_earlier : IsCourse program (record c { here = steps_at c.here at; counts = counts; steps = c.steps - 1 })
+  is_earlier =
+      let back = takes_back program c course facing in
+      let h = back.inside in
+      let same = before _ back.counts_are in
+      let there : c.steps - 1 ≡ back.place = omega (arith, back.place_is) in
+      goes_on program c _ course (is_inside_behind program c course facing) refl refl
+      (record {
+        instruction = h.instruction;
+        rest = h.rest;
+        k = back.k;
+        left = h.left;
+        faced = h.faced;
+        stands = stands_back program c back at counts (place back.k h.instruction) same;
+        marked = h.marked;
+        place_is = omega (arith, h.place_is, back.number);
+      })
+      (subst (λ p. AreCountsAt program.listing.steps p counts) (sym there) (subst (AreCountsAt program.listing.steps back.place) (sym same) (are_counts program.listing.steps back.place)))
+
+  pub is_not_last : at ≢ c.here.end
+  is_not_last e =
+      let back = takes_back program c course facing in
+      omega (arith, e, below program c back at (place back.k back.inside.instruction))

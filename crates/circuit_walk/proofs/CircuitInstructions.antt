@@ -28,7 +28,7 @@ each-copies n zero is h = tt
 each-copies n (suc turns) is h = each-append n is (copies turns is) h (each-copies n turns is h)
 
 -- the greatest of a list is that of its parts
-greatest-append : (count : Instruction → ℕ) (is js : List Instruction) → greatest_by count (is ++ js) ≡ max (greatest_by count is) (greatest_by count js)
+pub greatest-append : (count : Instruction → ℕ) (is js : List Instruction) → greatest_by count (is ++ js) ≡ max (greatest_by count is) (greatest_by count js)
 greatest-append count [] js = omega arith
 greatest-append count (i ∷ is) js = omega (arith, greatest-append count is js)
 

@@ -48,7 +48,7 @@ more_turns (suc n) a b h =
     let rest = more_turns n a b h in
     omega (arith, h, rest)
 
-few_reached : (t : Tree) → length (reached t) ≤ step_total t
+pub few_reached : (t : Tree) → length (reached t) ≤ step_total t
 unfolding total
 few_reached Nothing = omega arith
 few_reached (Then i rest) = omega (arith, few_reached rest)
@@ -65,7 +65,7 @@ IsUpTo n z = nat_abs z ≤ n
 sum_up_to : (a b : ℤ) (n : ℕ) → nat_abs a ≤ n → nat_abs b ≤ most → nat_abs (a +ℤ b) ≤ n + most
 sum_up_to a b n h k = omega (arith, ints, h, k)
 
-wider : (m n : ℕ) (zs : List ℤ) → m ≤ n → AreUpTo m zs → AreUpTo n zs
+pub wider : (m n : ℕ) (zs : List ℤ) → m ≤ n → AreUpTo m zs → AreUpTo n zs
 wider m n zs le h = All-weaker (IsUpTo m) (IsUpTo n) (λ z k. omega (arith, k, le)) zs h
 
 shifted_up_to : (n : ℕ) (o s : List ℤ) → AreUpTo n o → AreUpTo most s → AreUpTo (n + most) (shifted o s)
@@ -91,7 +91,7 @@ length-moved [] (b ∷ s) = refl
 length-moved (a ∷ o) [] = refl
 length-moved (a ∷ o) (b ∷ s) = ap suc (length-moved o s)
 
-offset_up_to : (n : ℕ) (o : List ℤ) (op : Operation) (arguments : List (List ℕ)) → HasCoordinates op arguments → AreUpTo n o → AreUpTo (n + most) (offset_after o op arguments)
+pub offset_up_to : (n : ℕ) (o : List ℤ) (op : Operation) (arguments : List (List ℕ)) → HasCoordinates op arguments → AreUpTo n o → AreUpTo (n + most) (offset_after o op arguments)
 offset_up_to n o CoordinateShift arguments has h = shifted_up_to n o (map whole_value arguments) h has.within
 offset_up_to n o op arguments has h = wider n (n + most) o (omega arith) h
 

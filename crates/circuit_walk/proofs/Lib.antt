@@ -1,8 +1,12 @@
+pub mod AddedNumbers
 pub mod BackLemmas
 pub mod CircuitInstructions
 pub mod CoordinatesMade
 pub mod CountLemmas
 pub mod CourseLemmas
+pub mod DeclaredLemmas
+pub mod DeclaredParts
+pub mod DeclaringLemmas
 pub mod EndLemmas
 pub mod FaultNumbers
 pub mod FeedbackEarlier
@@ -20,6 +24,7 @@ pub mod NamedSteps
 pub mod NumberLemmas
 pub mod PassLemmas
 pub mod PlaceCounts
+pub mod PlacingLemmas
 pub mod ProductLoops
 pub mod ProductPlaces
 pub mod ProductWords
@@ -32,6 +37,8 @@ pub mod StartLemmas
 pub mod StepLemmas
 pub mod StepsFit
 pub mod TakeLemmas
+pub mod TakenSteps
+pub mod Takings
 pub mod TargetLemmas
 pub mod TargetQubits
 pub mod TurnCounts

@@ -1,4 +1,5 @@
 pub mod Before
+pub mod Declarations
 pub mod FaultsMade
 pub mod Found
 pub mod Letters
@@ -6,11 +7,13 @@ pub mod Made
 pub mod Makes
 pub mod Meaning
 pub mod Named
+pub mod NamedRecords
 pub mod Programs
 pub mod Refusals
 pub mod Small
 pub mod Steps
 pub mod StepsMade
+pub mod Takers
 pub mod Targets
 pub mod TargetsMade
 pub mod Totals

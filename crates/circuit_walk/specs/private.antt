@@ -1,6 +1,10 @@
 pub mod Courses
+pub mod Declaring
 pub mod Held
 pub mod InstructionSteps
 pub mod Names
+pub mod Placing
+pub mod Taken
+pub mod Takings
 pub mod Turns
 pub mod Walks

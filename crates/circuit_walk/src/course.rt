@@ -227,7 +227,8 @@ impl<'a, 'p, A: Allocator + Copy> Course<'a, 'p, A> {
         self.here.at = at;
         self.counts = self.here.counts_before(self.counts);
         self.steps -= 1;
-        self.here.step(self.counts)
+        self.text.fits();
+        self.here.next(self.counts).step
     }
 
     /// Answers the step after the place and goes over it; none at the end, where the place stays.

@@ -1,12 +1,15 @@
 //! A pass over all steps of a program: instruction by instruction, and in each target by target. What an instruction does is
 //! asked once, and each operation has a loop of its own.
 
-ghost use Rattle.std.specs.Prelude.{◌≡◌, ◌≢◌, ◌+◌, ◌≤◌, length, true};
-ghost use Rattle.circuit_walk.specs.Makes.{makes_errors};
+ghost use Rattle.std.specs.Prelude.{◌≡◌, ◌+◌, ◌<◌, ◌≤◌, ◌^◌, false, length};
 ghost use Rattle.circuit_walk.specs.private.Courses.{IsCourse, IsPassing, course_at};
+ghost use Rattle.circuit_walk.specs.private.Takings.{HasGoneOn, IsTakingAt};
+ghost use Rattle.circuit_walk.specs.private.Walks.{makes_steps};
 
 use crate::choice::StepMakers;
+use crate::errors::{take_letter_errors, take_product_errors};
 use crate::instruction_steps::InstructionSteps;
+use crate::operations::{take_measurements, take_pairs, take_products, take_resets, take_singles};
 use crate::program::{Program, Text};
 use crate::step::Counts;
 use crate::step_taker::StepTaker;
@@ -21,6 +24,26 @@ pub(crate) struct Inside<'c> {
     pub here: InstructionSteps<'c>,
     pub counts: Counts,
     pub steps: usize,
+}
+
+impl Inside<'_> {
+    /// Goes over a step of so many targets, to these counts.
+    #[inline(always)]
+    pub(crate) fn go_on(&mut self, targets: usize, counts: Counts)
+        requires few { self.old.steps + 1 < 2 ^ 32 }
+        requires within { self.old.here.at + targets ≤ self.old.here.end }
+        ensures { self.new ≡ record {
+          here = record self.old.here { at = self.old.here.at + targets };
+          counts = counts;
+          steps = self.old.steps + 1;
+        } }
+    {
+        // The proof takes the range from a read.
+        let _end = self.here.end;
+        self.here.at += targets;
+        self.counts = counts;
+        self.steps += 1;
+    }
 }
 
 /// Has a taker take all steps of a program. It takes no memory of its own.
@@ -49,8 +72,7 @@ pub fn take_all<T: StepTaker<A>, A: Allocator + Copy>(program: &Program<'_, A>, 
     }
 }
 
-/// Has the taker take the steps that are left of an instruction. In each branch the operation is known, so the loop is made for
-/// that operation alone.
+/// Has the taker take the steps that are left of an instruction.
 #[inline(always)]
 fn take_instruction<T: StepTaker<A>, A: Allocator + Copy>(
     program: &Program<'_, A>,
@@ -59,135 +81,49 @@ fn take_instruction<T: StepTaker<A>, A: Allocator + Copy>(
     taker: &mut T,
     inside: &mut Inside<'_>,
 )
-    requires course { IsCourse program.now (course_at text cursor.now inside.old) }
-    requires stands { (begun : T) × T.stands program.now begun inside.old.steps taker.old }
-    ensures course { IsCourse program.now (course_at text.entry cursor.now inside.new) }
-    ensures stands { (begun : T) → T.stands program.now begun inside.old.steps taker.old
-        → T.stands program.now begun inside.new.steps taker.new }
+    requires place { IsTakingAt T.stands program.now taker.old
+        (course_at text cursor.now inside.old) }
+    ensures gone { HasGoneOn T.stands program.now taker.old taker.new
+        (course_at text.entry cursor.now inside.old) (course_at text.entry cursor.now inside.new) }
     ensures done { inside.new.here.at ≡ inside.new.here.end }
 {
     match inside.here.operation {
         Operation::Applies(gate) => {
-            inside.here.operation = Operation::Applies(gate);
-            take_steps(program, text, cursor, taker, inside)
+            if gate.arity() == 1 {
+                take_singles(program, text, cursor, taker, inside, gate)
+            } else {
+                take_pairs(program, text, cursor, taker, inside, gate)
+            }
         }
         Operation::PauliError(letter) => {
-            inside.here.operation = Operation::PauliError(letter);
-            take_faults(program, text, cursor, taker, inside)
+            take_letter_errors(program, text, cursor, taker, inside, letter)
         }
+        Operation::CorrelatedError => take_product_errors(program, text, cursor, taker, inside),
         Operation::Measurement(letter) => {
-            inside.here.operation = Operation::Measurement(letter);
-            take_steps(program, text, cursor, taker, inside)
+            take_measurements(program, text, cursor, taker, inside, letter, false)
         }
         Operation::MeasurementReset(letter) => {
-            inside.here.operation = Operation::MeasurementReset(letter);
-            take_steps(program, text, cursor, taker, inside)
+            take_measurements(program, text, cursor, taker, inside, letter, true)
         }
-        Operation::QubitReset(letter) => {
-            inside.here.operation = Operation::QubitReset(letter);
-            take_steps(program, text, cursor, taker, inside)
-        }
-        _ => take_steps(program, text, cursor, taker, inside),
+        Operation::QubitReset(letter) => take_resets(program, text, cursor, taker, inside, letter),
+        Operation::ProductMeasurement => take_products(program, text, cursor, taker, inside),
+        Operation::DetectorDeclaration
+        | Operation::ObservableInclude
+        | Operation::Tick
+        | Operation::QubitCoordinates
+        | Operation::CoordinateShift => has_none(program, text, cursor, inside),
     }
 }
 
-/// Has the taker take the steps that are left of an instruction, one by one.
+/// Does nothing: instructions of other operations make no steps, so none is left.
 #[inline(always)]
-fn take_steps<T: StepTaker<A>, A: Allocator + Copy>(
+fn has_none<A: Allocator + Copy>(
     program: &Program<'_, A>,
     text: Text<'_, '_, A>,
     cursor: &Cursor,
-    taker: &mut T,
-    inside: &mut Inside<'_>,
+    inside: &Inside<'_>,
 )
-    requires course { IsCourse program.now (course_at text cursor.now inside.old) }
-    requires stands { (begun : T) × T.stands program.now begun inside.old.steps taker.old }
-    ensures course { IsCourse program.now (course_at text.entry cursor.now inside.new) }
-    ensures stands { (begun : T) → T.stands program.now begun inside.old.steps taker.old
-        → T.stands program.now begun inside.new.steps taker.new }
-    ensures done { inside.new.here.at ≡ inside.new.here.end }
-{
-    while inside.here.at != inside.here.end {
-        take_step(program, text, cursor, taker, inside);
-    }
-}
-
-/// The same of an instruction whose steps are faults: over those that change nothing the taker goes at once.
-#[inline(always)]
-fn take_faults<T: StepTaker<A>, A: Allocator + Copy>(
-    program: &Program<'_, A>,
-    text: Text<'_, '_, A>,
-    cursor: &Cursor,
-    taker: &mut T,
-    inside: &mut Inside<'_>,
-)
-    requires course { IsCourse program.now (course_at text cursor.now inside.old) }
-    requires stands { (begun : T) × T.stands program.now begun inside.old.steps taker.old }
-    requires errors { makes_errors inside.old.here.operation ≡ true }
-    ensures course { IsCourse program.now (course_at text.entry cursor.now inside.new) }
-    ensures stands { (begun : T) → T.stands program.now begun inside.old.steps taker.old
-        → T.stands program.now begun inside.new.steps taker.new }
-    ensures done { inside.new.here.at ≡ inside.new.here.end }
-{
-    while inside.here.at != inside.here.end {
-        pass_faults(program, text, cursor, taker, inside);
-        if inside.here.at != inside.here.end {
-            take_step(program, text, cursor, taker, inside);
-        }
-    }
-}
-
-/// Has the taker take the next step of the instruction.
-#[inline(always)]
-fn take_step<T: StepTaker<A>, A: Allocator + Copy>(
-    program: &Program<'_, A>,
-    text: Text<'_, '_, A>,
-    cursor: &Cursor,
-    taker: &mut T,
-    inside: &mut Inside<'_>,
-)
-    requires course { IsCourse program.now (course_at text cursor.now inside.old) }
-    requires stands { (begun : T) × T.stands program.now begun inside.old.steps taker.old }
-    requires facing { inside.old.here.at ≢ inside.old.here.end }
-    ensures course { IsCourse program.now (course_at text.entry cursor.now inside.new) }
-    ensures stands { (begun : T) → T.stands program.now begun inside.old.steps taker.old
-        → T.stands program.now begun inside.new.steps taker.new }
-    ensures on { inside.new.steps ≡ inside.old.steps + 1 }
-    ensures same { inside.new.here.operation ≡ inside.old.here.operation }
-{
-    text.fits();
-    let taken = inside.here.next(inside.counts);
-    inside.here.at = taken.at;
-    inside.counts = taken.counts;
-    inside.steps += 1;
-    taker.take(program, taken.step);
-}
-
-/// Has the taker go over the faults of the instruction that change nothing, to the first that may.
-#[inline(always)]
-fn pass_faults<T: StepTaker<A>, A: Allocator + Copy>(
-    program: &Program<'_, A>,
-    text: Text<'_, '_, A>,
-    cursor: &Cursor,
-    taker: &mut T,
-    inside: &mut Inside<'_>,
-)
-    requires course { IsCourse program.now (course_at text cursor.now inside.old) }
-    requires stands { (begun : T) × T.stands program.now begun inside.old.steps taker.old }
-    requires facing { inside.old.here.at ≢ inside.old.here.end }
-    requires errors { makes_errors inside.old.here.operation ≡ true }
-    ensures course { IsCourse program.now (course_at text.entry cursor.now inside.new) }
-    ensures stands { (begun : T) → T.stands program.now begun inside.old.steps taker.old
-        → T.stands program.now begun inside.new.steps taker.new }
-    ensures on { inside.new.steps + inside.old.here.at ≡ inside.old.steps + inside.new.here.at }
-    ensures further { inside.old.here.at ≤ inside.new.here.at }
-    ensures same { inside.new.here.operation ≡ inside.old.here.operation }
-    ensures end { inside.new.here.end ≡ inside.old.here.end }
-{
-    text.fits();
-    let left = inside.here.end - inside.here.at;
-    let passed = taker.pass_faults(program, inside.counts.faults, left);
-    inside.here.at += passed;
-    inside.counts.faults += passed as u32;
-    inside.steps += passed;
-}
+    requires course { IsCourse program.now (course_at text cursor.now inside.now) }
+    requires none { makes_steps inside.now.here.operation ≡ false }
+    ensures done { inside.now.here.at ≡ inside.now.here.end }
+{}

@@ -9,6 +9,7 @@ ghost use Rattle.stim_lexer.specs.Kept.{item_in};
 ghost use Rattle.circuit_walk.specs.private.InstructionSteps.{AreStepsOf};
 ghost use Rattle.stim_lexer.specs.Trees.{InstructionLine, items_of};
 ghost use Rattle.stim_parser.specs.Circuits.{Fits};
+ghost use Rattle.stim_parser.specs.Kept.{instruction_in};
 ghost use Rattle.stim_parser.specs.Verdicts.{Instruction};
 
 use crate::instruction_steps::InstructionSteps;
@@ -89,6 +90,21 @@ impl<'a, 'p, A: Allocator + Copy> Text<'a, 'p, A> {
     {
         // The proof takes the range from a read.
         let _steps = self.totals.steps;
+    }
+
+    /// The instruction of an item.
+    #[inline(always)]
+    pub(crate) fn instruction_at(&self, i: usize) -> stim_parser::Instruction<'a, 'p>
+        requires { (x : Instruction) × (slice_get self.now.items.now.items i ≡ Some (InstructionLine x)) }
+        ensures item { Some (InstructionLine (instruction_in result))
+            ≡ slice_get self.now.items.now.items i }
+        ensures is { (x : Instruction) → slice_get self.now.items.now.items i ≡ Some (InstructionLine x)
+            → instruction_in result ≡ x }
+    {
+        match self.items.get(i) {
+            Item::InstructionLine(instruction) => instruction,
+            _ => unreachable!(),
+        }
     }
 
     /// The steps of the instruction of an item, before the first.

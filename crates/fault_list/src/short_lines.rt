@@ -113,7 +113,7 @@ fn put_record(buffer: &mut [u8], at: usize, record: &mut Counter, r: u32) -> usi
     put_byte(buffer, end, b']')
 }
 
-// Puts the word of some terms. One or two, as most words have, are written with no loop.
+// Puts the word of some terms. That of one, as most words are, is written here.
 #[inline(always)]
 fn put_word(buffer: &mut [u8], at: usize, names: &QubitNames, terms: Letters<'_>) -> Option<usize>
     requires room { at + WORD + 8 ≤ length buffer.old }
@@ -124,7 +124,37 @@ fn put_word(buffer: &mut [u8], at: usize, names: &QubitNames, terms: Letters<'_>
 {
     let (first, more) = terms.split_first()?;
     match more.split_first() {
-        None => put_ordered(buffer, at, names, &[first]),
+        None => put_lone(buffer, at, names, first),
+        Some(_) => put_some(buffer, at, names, terms),
+    }
+}
+
+// The same of one term. It answers none where that is I.
+#[inline(always)]
+fn put_lone(buffer: &mut [u8], at: usize, names: &QubitNames, term: Term) -> Option<usize>
+    requires { at + WORD + 8 ≤ length buffer.old }
+    ensures { (qubits : ℕ) → TermsFit qubits (term ∷ [])
+        → Puts WORD at (word_text (word_of_terms qubits (term ∷ []))) buffer.old buffer.new result }
+{
+    if !acts(term.letter) {
+        return None;
+    }
+    Some(put_factor(buffer, at, names, term))
+}
+
+// The same of any terms. Two, as most words of more have, are written with no loop. It stands apart, so that the loop over errors
+// of one letter holds only what these need.
+#[inline(never)]
+fn put_some(buffer: &mut [u8], at: usize, names: &QubitNames, terms: Letters<'_>) -> Option<usize>
+    requires room { at + WORD + 8 ≤ length buffer.old }
+    requires small { AreSmall terms }
+    ensures { (qubits : ℕ) → TermsFit qubits (letters_in terms.entry)
+        → Puts (length buffer.old - (at + 6)) at (word_text (word_of_terms qubits (letters_in terms.entry)))
+        buffer.old buffer.new result }
+{
+    let (first, more) = terms.split_first()?;
+    match more.split_first() {
+        None => put_lone(buffer, at, names, first),
         Some((second, rest)) => match rest.split_first() {
             None => put_two(buffer, at, names, first, second),
             Some(_) => put_more(buffer, at, names, first, more),
@@ -155,7 +185,6 @@ fn put_two(
 
 // The same of one term and those behind it, letter by letter. It answers none where their qubits don't ascend, where one of them
 // is I, or where there is no room for all.
-#[inline(never)]
 fn put_more(
     buffer: &mut [u8],
     at: usize,

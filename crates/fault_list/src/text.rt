@@ -110,8 +110,7 @@ impl<'s, 't, 'a, A: Allocator + Copy, W: Sink> FaultTaker<A> for Listing<'s, 't,
 }
 
 // Writes a line after those that are held in the buffer, and answers how much is held then. Short lines go out together.
-// It stays apart, so that the loop over faults is small enough to be made for each operation.
-#[inline(never)]
+#[inline(always)]
 fn write_line<'t, 'a, A: Allocator + Copy, W: Sink>(
     out: &mut Pieces,
     sink: &mut W,
@@ -143,6 +142,8 @@ fn write_line<'t, 'a, A: Allocator + Copy, W: Sink>(
     }
 }
 
+// A line that isn't put in the buffer. It stays apart, since few lines are so long.
+#[inline(never)]
 fn write_long_line<'t, 'a, A: Allocator + Copy, W: Sink>(
     out: &mut Pieces,
     sink: &mut W,

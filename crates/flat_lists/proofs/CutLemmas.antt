@@ -1,7 +1,7 @@
 -- How many pieces a cut has, which piece is at an index, and one more piece at the end.
 use Rattle.std.proofs.Common.{◌≡◌, ℕ, ◌+◌, ◌-◌, ◌<◌, ◌≤◌, zero, suc, List, [], ◌∷◌, ◌++◌, length, get_or, take, drop, Some, refl, sym, ap, ◌∙◌, arith, slice_get}
 use Rattle.std.specs.Prelude.{All, slice_range}
-use Rattle.std.proofs.lemmas.List.{drop_all, drop_at, drop-append-le, take-append-drop, take-append-le, take_all, length-append, length-drop, length-take, get_or_read}
+use Rattle.std.proofs.lemmas.List.{drop_at, drop-append-le, take-append-drop, take-append-le, take_all, length-append, length-drop, length-take, get_or_read}
 use Rattle.std.proofs.lemmas.List.Elements.{All-cons, All-drop, All-nil, All-take}
 use Rattle.flat_lists.specs.Cuts.{cut, AreEnds}
 
@@ -38,15 +38,6 @@ All-cut P start [] items h = All-nil (All P)
 All-cut P start (end ∷ ends) items h =
     All-cons (All P) (slice_range items start end) (cut end ends items) (All-take P (end - start) (drop start items) (All-drop P start items h)) (All-cut P end ends items h)
 
--- where there is no item, each piece is empty
-pub none-cut : {X : Type 0} (start : ℕ) (ends : List ℕ) (items : List X) → length items ≡ 0 → All (λ piece. piece ≡ []) (cut start ends items)
-none-cut start ends (item ∷ items) none = absurd (omega (arith, none))
-none-cut {X} start [] [] none = All-nil (λ (piece : List X). piece ≡ [])
-none-cut {X} start (end ∷ ends) [] none =
-    let nothing : List X = [] in
-    let empty : slice_range nothing start end ≡ [] = ap (take (end - start)) (drop_all start nothing (omega arith)) ∙ take_all (end - start) nothing (omega arith) in
-    All-cons (λ (piece : List X). piece ≡ []) (slice_range nothing start end) (cut end ends nothing) empty (none-cut end ends nothing none)
-
 -- each piece is a part of the list
 piece_in_range : (start : ℕ) (ends : List ℕ) (count k : ℕ) → AreEnds start ends count → k < length ends → (get_or (start ∷ ends) k 0 ≤ get_or ends k 0) × (get_or ends k 0 ≤ count)
 piece_in_range start [] count k h below = absurd (omega arith)
@@ -79,36 +70,6 @@ cut-push start (end ∷ ends) items list count h e =
     let within : end ≤ length items = start_le_count end ends (length items) h.1 in
     let same = slice_range-append_left items list start end h.0 within in
     rw same (ap (λ rest. slice_range items start end ∷ rest) (cut-push end ends items list count h.1 e))
-
--- a piece starts no earlier than the first
-first_starts : (start : ℕ) (ends : List ℕ) (count k : ℕ) → AreEnds start ends count → k < length ends → start ≤ get_or (start ∷ ends) k 0
-first_starts start [] count k h below = absurd (omega (arith, below))
-first_starts start (end ∷ ends) count zero h below = omega arith
-first_starts start (end ∷ []) count (suc k) h below = absurd (omega (arith, below))
-first_starts start (end ∷ next ∷ ends) count (suc k) h below =
-    omega (arith, h.0, first_starts end (next ∷ ends) count k h.1 (omega (arith, below)))
-
--- the ends up to the last one are those of the pieces up to there, whose items are those before it
-pub AreEnds-pop : {X : Type 0} → (start : ℕ) (ends : List ℕ) (items : List X) (last : ℕ) → AreEnds start ends (length items) → last < length ends → AreEnds start (take last ends) (length (take (get_or (start ∷ ends) last 0) items))
-AreEnds-pop start [] items last h below = absurd (omega (arith, below))
-AreEnds-pop start (end ∷ ends) items zero h below =
-    let within : start ≤ length items = omega (arith, h.0, start_le_count end ends (length items) h.1) in
-    simp length-take (omega (arith, within))
-AreEnds-pop start (end ∷ ends) items (suc last) h below =
-    (h.0, AreEnds-pop end ends items last h.1 (omega (arith, below)))
-
-pub cut-pop : {X : Type 0} → (start : ℕ) (ends : List ℕ) (items : List X) (last : ℕ) → AreEnds start ends (length items) → last < length ends → cut start (take last ends) (take (get_or (start ∷ ends) last 0) items) ≡ take last (cut start ends items)
-cut-pop start [] items last h below = absurd (omega (arith, below))
-cut-pop start (end ∷ ends) items zero h below = refl
-cut-pop {X} start (end ∷ ends) items (suc last) h below =
-    let n = get_or (end ∷ ends) last 0 in
-    let there : last < length ends = omega (arith, below) in
-    let range = piece_in_range end ends (length items) last h.1 there in
-    let kept : end ≤ length (take n items) = simp length-take (omega (arith, first_starts end ends (length items) last h.1 there, range.0, range.1)) in
-    let same : slice_range items start end ≡ slice_range (take n items) start end =
-    ap (λ (xs : List X). slice_range xs start end) (sym (take-append-drop n items))
-    ∙ slice_range-append_left (take n items) (drop n items) start end h.0 kept in
-    rw (← same) (ap (λ rest. slice_range items start end ∷ rest) (cut-pop end ends items last h.1 there))
 
 -- what is known of the piece at an index, once its start and its end are read
 pub record IsPieceAt {X : Type 0} (items : List X) (lists : List (List X)) (index start end : ℕ) : Type 0 where

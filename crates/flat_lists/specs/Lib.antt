@@ -1,4 +1,2 @@
 pub mod Cuts
 pub mod Growing
-pub mod Turns
-pub mod private

@@ -1,14 +1,14 @@
 //! Lists that are made item by item, each where it will stand.
 ghost use Rattle.std.specs.Prelude.{◌≡◌, [], ◌∷◌, ◌++◌, OnOk, OnErr};
 
-use crate::{FlatLists, end_after};
+use crate::FlatLists;
 use std::alloc::{AllocError, Allocator};
 use std::marker::Model;
 
-/// Lists, and behind them the items of the next one, which isn't ended. They have less than 2^32 items in all.
+/// Lists, and behind them the items of the next one, which isn't ended.
 pub struct GrowingLists<T: Copy, A: Allocator + Copy> {
     items: Vec<T, A>,
-    ends: Vec<u32, A>,
+    ends: Vec<usize, A>,
     // Where the last list ends and the next one starts.
     start: usize,
 }
@@ -86,16 +86,16 @@ impl<T: Copy, A: Allocator + Copy> GrowingLists<T, A> {
         &self.items[self.start..]
     }
 
-    /// Ends the next list. It fails only where memory runs out, or where there would be 2^32 items or more.
+    /// Ends the next list. It fails only where memory runs out.
     #[inline(always)]
     pub fn end(&mut self) -> Result<(), AllocError>
         ensures ok { OnOk result
             (self.new ≡ record { lists = self.old.lists ++ self.old.next ∷ []; next = [] }) }
         ensures err { OnErr result (self.new ≡ self.old) }
     {
-        let end = end_after(self.items.len(), 0)?;
+        let end = self.items.len();
         self.ends.push(end)?;
-        self.start = self.items.len();
+        self.start = end;
         Ok(())
     }
 

@@ -1,26 +1,20 @@
 //! A list of lists kept flat: all items one after another, and where each list ends. Millions of short lists
-//! take two blocks of memory in all, instead of one each. Lists of whole numbers are kept in bytes.
+//! take two blocks of memory in all, instead of one each.
 #![tactic(auto)]
 
 ghost use Rattle.flat_lists.specs.Cuts.{cut, AreEnds};
 ghost use Rattle.std.specs.Prelude.{◌≡◌, true, All, ◌+◌, ◌-◌, ◌<◌, ◌==◌, [], ◌∷◌, ◌++◌, length, take, IfOk, OnOk, OnErr, Some, slice_get, slice_index, slice_index_or};
 
 mod growing_lists;
-mod moved_lists;
-mod number_lists;
-mod packed_lists;
-mod rooms;
 
 pub use growing_lists::GrowingLists;
-pub use number_lists::{MOST_NUMBERS, NumberLists};
-pub use rooms::ListRooms;
 use std::alloc::{AllocError, Allocator};
 use std::marker::Model;
 
-/// Lists of items, in the order in which they were pushed. They have less than 2^32 items in all.
+/// Lists of items, in the order in which they were pushed.
 pub struct FlatLists<T: Copy, A: Allocator + Copy> {
     items: Vec<T, A>,
-    ends: Vec<u32, A>,
+    ends: Vec<usize, A>,
 }
 
 impl<T: Copy, A: Allocator + Copy> Model for FlatLists<T, A> {
@@ -75,7 +69,7 @@ impl<T: Copy, A: Allocator + Copy> FlatLists<T, A> {
     }
 
     /// The lists that these items make, cut at these ends.
-    pub fn cut(items: Vec<T, A>, ends: Vec<u32, A>) -> Self
+    pub fn cut(items: Vec<T, A>, ends: Vec<usize, A>) -> Self
         requires { AreEnds 0 ends.items (length items.items) }
         ensures { result ≡ cut 0 ends.items items.items }
     {
@@ -98,25 +92,15 @@ impl<T: Copy, A: Allocator + Copy> FlatLists<T, A> {
         self.len() == 0
     }
 
-    // Whether no list has an item.
-    #[inline(always)]
-    fn are_empty(&self) -> bool
-        ensures { result ≡ true → All (λ list. list ≡ []) self.now }
-    {
-        self.items.is_empty()
-    }
-
-    /// Appends a copy of the list. It fails only where memory runs out, or where there would be 2^32 items or more.
+    /// Appends a copy of the list. It fails only where memory runs out.
     pub fn push(&mut self, list: &[T]) -> Result<(), AllocError>
         ensures ok { OnOk result (self.new ≡ self.old ++ list.now ∷ []) }
         ensures err { OnErr result (self.new ≡ self.old) }
     {
-        let end = end_after(self.items.len(), list.len())?;
-
         // Room for the end first, so that nothing changes where memory runs out.
         self.ends.reserve(1)?;
         self.items.extend_from_slice(list)?;
-        self.ends.push_reserved(end);
+        self.ends.push_reserved(self.items.len());
         Ok(())
     }
 
@@ -128,31 +112,16 @@ impl<T: Copy, A: Allocator + Copy> FlatLists<T, A> {
         ensures value { result.now ≡ slice_index_or self.now index [] }
     {
         let start = start_of(&self.ends, index);
-        let end = self.ends[index] as usize;
+        let end = self.ends[index];
         &self.items[start..end]
     }
 }
 
 // Where the list at an index starts: where the one before it ends, and the first at 0.
 #[inline(always)]
-fn start_of(ends: &[u32], index: usize) -> usize
+fn start_of(ends: &[usize], index: usize) -> usize
     requires { index < length ends.now }
     ensures { result ≡ slice_index (0 ∷ ends.now) index }
 {
-    if index == 0 {
-        0
-    } else {
-        ends[index - 1] as usize
-    }
-}
-
-// Where a list of this length ends after so many items.
-fn end_after(items: usize, list: usize) -> Result<u32, AllocError>
-    ensures { IfOk result (λ end. end ≡ items + list) }
-{
-    let end = items.saturating_add(list);
-    if end > u32::MAX as usize {
-        return Err(AllocError);
-    }
-    Ok(end as u32)
+    if index == 0 { 0 } else { ends[index - 1] }
 }

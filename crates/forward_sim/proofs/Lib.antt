@@ -1,4 +1,5 @@
 pub mod Differences
+pub mod AnswerLemmas
 pub mod KeptWords
 pub mod LetterGates
 pub mod ListedLemmas
@@ -11,6 +12,8 @@ pub mod RunLoops
 pub mod RunRecords
 pub mod WalkedSteps
 pub mod StepLetters
+pub mod TakenSteps
+pub mod ExclusiveOrs
 pub mod TermWords
 pub mod WordsSaid
 pub mod RunLemmas

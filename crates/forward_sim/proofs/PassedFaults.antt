@@ -1,24 +1,7 @@
 -- Faults that a walk passes over at once.
-use Rattle.std.proofs.Common.{◌≡◌, ℕ, zero, suc, ◌+◌, ◌<◌, ◌≤◌, List, [], ◌∷◌, take, sym, ap, subst, ◌∙◌, arith, length-append}
+use Rattle.std.proofs.Common.{◌≡◌, ℕ, zero, suc, ◌+◌, ◌<◌, ◌≤◌, List, sym, ap, subst, ◌∙◌, arith}
 use Rattle.std.specs.Prelude.{Some, slice_get}
-use Rattle.circuit_walk.specs.Walks.{ArePassed, faults_before}
 use Rattle.step_model.specs.Listing.{ListedStep, Fault}
-use Rattle.step_model.specs.WellFormed.{faults_named, step_faults}
-
--- the steps before a later place name as many faults or more
-pub faults_before-later : (steps : List ListedStep) (k m : ℕ) → k ≤ m → faults_before steps k ≤ faults_before steps m
-faults_before-later [] zero m h = omega arith
-faults_before-later [] (suc k) zero h = omega arith
-faults_before-later [] (suc k) (suc m) h = omega arith
-faults_before-later (step ∷ steps) zero m h = omega arith
-faults_before-later (step ∷ steps) (suc k) zero h = absurd (omega arith)
-faults_before-later (step ∷ steps) (suc k) (suc m) h =
-    omega (
-      arith,
-      faults_before-later steps k m (omega arith),
-      length-append (step_faults step) (faults_named (take k steps)),
-      length-append (step_faults step) (faults_named (take m steps)),
-    )
 
 -- what holds before a fault of some kind and then behind it, holds behind all that are passed, where all are of this kind
 module _ (holds kind : ℕ → Type 0) (steps : List ListedStep) (over : (k f : ℕ) → slice_get steps k ≡ Some (Fault f) → kind f → holds k → holds (k + 1)) where
@@ -37,6 +20,3 @@ module _ (holds kind : ℕ → Type 0) (steps : List ListedStep) (over : (k f : 
       ap (slice_get steps) there ∙ each (suc i) (omega arith) ∙ ap (λ f. Some (Fault f)) next)
       (λ f from to. all f (omega arith) (omega arith))
       (over place number here (all number (omega arith) (omega arith)) before))
-
-  pub behind_passed : (place count : ℕ) → ArePassed steps place count → ((f : ℕ) → faults_before steps place ≤ f → f < faults_before steps place + count → kind f) → holds place → holds (place + count)
-  behind_passed place count each all before = behind_each count place (faults_before steps place) each all before

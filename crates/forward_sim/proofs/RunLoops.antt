@@ -1,5 +1,5 @@
 -- A run that goes along with the steps of a program, one by one and over faults that don't happen.
-use Rattle.std.proofs.Common.{◌≡◌, ◌+◌, ◌≤◌, ℕ, Bool, List, [], false, length, drop, refl, sym, ap, ◌∙◌, subst, arith, Option, Some}
+use Rattle.std.proofs.Common.{◌≡◌, ◌+◌, ℕ, Bool, List, [], false, length, refl, sym, ap, ◌∙◌, subst, arith, Option, Some}
 use Rattle.std.specs.Prelude.{slice_get, ◌&&◌}
 use Rattle.std.proofs.lemmas.List.{drop_all}
 use Rattle.pauli_word.specs.Words.{anticommute, with_sign_changed}
@@ -16,7 +16,7 @@ use Rattle.forward_sim.specs.private.Machines.{CanTake}
 use Rattle.forward_sim.specs.private.Quiet.{NoneHappens}
 use Rattle.forward_sim.specs.SameRuns.{IsSameRun}
 use Rattle.forward_sim.proofs.PassedFaults.{behind_each}
-use Rattle.forward_sim.proofs.ReferenceSteps.{entries_at_end, keeps_after_step}
+use Rattle.forward_sim.proofs.ReferenceSteps.{keeps_after_step}
 use Rattle.forward_sim.proofs.RunRecords.{records_at_end, rest_after_step, rest_at_start, step_is_next}
 use Rattle.forward_sim.proofs.WalkedSteps.{drop-step, listed_of}
 

@@ -9,4 +9,5 @@ pub mod Sieves
 pub mod Quiet
 pub mod Along
 pub mod Takers
+pub mod Answers
 pub mod BoundTakers

@@ -1,14 +1,15 @@
-ghost use Rattle.std.specs.Prelude.{◌≡◌, ◌<◌, length, IfOk, IfErr};
-ghost use Rattle.std.specs.List.{All};
-ghost use Rattle.pauli_word.specs.Parity.{exclusive_or};
+//! How two runs differ: whether each detector's parity, and then each observable's, differs between them. A pass over what a
+//! program declares takes the records that each of them lists in place.
+ghost use Rattle.std.specs.Prelude.{◌≡◌, ◌<◌, All, length, IfOk, IfErr};
+ghost use Rattle.circuit_walk.specs.NamedRecords.{records_in};
 ghost use Rattle.step_model.specs.Faults.{memory_fault};
-ghost use Rattle.step_model.specs.Targets.{difference, parity};
+ghost use Rattle.step_model.specs.Targets.{difference};
+ghost use Rattle.forward_sim.specs.private.Answers.{differ_in};
 
 use crate::records::Records;
-use circuit_walk::Program;
+use circuit_walk::{DeclarationTaker, NamedRecords, Program, take_declarations};
 use std::alloc::Allocator;
 use step_model::Fault;
-use target_lists::TargetRecords;
 
 /// For each detector, and then for each observable, whether its parity in a run differs from that in a reference run:
 /// detection events, and flips of observables.
@@ -25,26 +26,72 @@ pub fn detections<A: Allocator + Copy>(
     ensures err { IfErr result (λ fault. fault ≡ memory_fault) }
 {
     program.well_formed();
-    let targets = TargetRecords::of(alloc, program)?;
-    let count = targets.len();
-    let mut answers = Vec::with_capacity(alloc, count)?;
-    for number in 0..count {
-        let named = targets.get(number);
-        answers.push_reserved(differs(named, records, reference));
-    }
+    let mut answering = Answering {
+        answers: vec![in alloc; false; program.target_count()]?,
+        next: 0,
+        detectors: program.detector_count(),
+        records,
+        reference,
+    };
+    take_declarations(program, &mut answering);
+    let Answering { answers, .. } = answering;
     Ok(answers)
 }
 
+// The answers so far: those of the detectors that were gone over, and of each observable that of the records added to it.
+#[derive(Drop)]
+struct Answering<'r, A: Allocator + Copy> {
+    answers: Vec<bool, A>,
+    // The number of the next detector.
+    next: usize,
+    // Observables are numbered behind all detectors.
+    detectors: usize,
+    records: &'r Records<A>,
+    reference: &'r Records<A>,
+}
+
+impl<'r, A: Allocator + Copy> DeclarationTaker<A> for Answering<'r, A> {
+    ghost use Rattle.forward_sim.specs.private.Answers.{IsAnswering};
+
+    ghost stands = { λ program begun done answering. IsAnswering program.listing begun.records.now begun.reference.now done answering.records.now answering.reference.now answering.next answering.detectors answering.answers.items };
+
+    #[inline(always)]
+    fn detector(&mut self, program: &Program<'_, A>, records: NamedRecords<'_>) {
+        program.well_formed();
+        self.answers[self.next] = differs(records, self.records, self.reference);
+        self.next += 1;
+    }
+
+    #[inline(always)]
+    fn inclusion(
+        &mut self,
+        program: &Program<'_, A>,
+        observable: usize,
+        records: NamedRecords<'_>,
+    ) {
+        program.well_formed();
+        let number = self.detectors + observable;
+        let before = self.answers[number];
+        self.answers[number] = before ^ differs(records, self.records, self.reference);
+    }
+}
+
 // Whether the parities of these records differ.
-fn differs<A: Allocator + Copy>(named: &[u32], records: &Records<A>, reference: &Records<A>) -> bool
-    requires records_fit { All (λ r. r < length records.now) named.now }
-    requires reference_fit { All (λ r. r < length reference.now) named.now }
-    ensures { result
-        ≡ exclusive_or (parity named.now records.now) (parity named.now reference.now) }
+#[inline(always)]
+fn differs<A: Allocator + Copy>(
+    named: NamedRecords<'_>,
+    records: &Records<A>,
+    reference: &Records<A>,
+) -> bool
+    requires records_fit { All (λ r. r < length records.now) (records_in named) }
+    requires reference_fit { All (λ r. r < length reference.now) (records_in named) }
+    ensures { result ≡ differ_in records.now reference.now (records_in named.entry) }
 {
     let mut differ = false;
-    for index in named {
-        differ ^= records.get(*index as usize) ^ reference.get(*index as usize);
+    let mut left = named;
+    while let Some((rec, rest)) = left.split_first() {
+        differ ^= records.get(rec as usize) ^ reference.get(rec as usize);
+        left = rest;
     }
     differ
 }

@@ -5,8 +5,10 @@ ghost use Rattle.step_model.specs.Runs.{records_of};
 use crate::machine::Machine;
 use crate::quiet::quiet_count;
 use crate::records::Records;
-use crate::steps::take_step;
-use circuit_walk::{Program, Step, StepTaker, take_all};
+use crate::steps::{collapse, collapse_word, feed_back, flip_happens, take_fault};
+use circuit_walk::{FaultName, Letters, Program, StepTaker, take_all};
+use gate_table::Gate;
+use pauli_word::Letter;
 use std::alloc::{AllocError, Allocator};
 use step_model::Fault;
 
@@ -42,9 +44,57 @@ impl<'r, 'c, A: Allocator + Copy> StepTaker<A> for OneRun<'r, 'c, A> {
     ghost stands = { λ program begun k run. IsRunning program.listing begun.faults.now begun.machine.coins k run.faults.now run.machine };
 
     #[inline(always)]
-    fn take(&mut self, program: &Program<'_, A>, step: Step<'_>) {
+    fn apply_one(&mut self, program: &Program<'_, A>, gate: Gate, q: u32) {
         program.well_formed();
-        take_step(&mut self.machine, program, self.faults, step);
+        self.machine.apply_one(gate, q);
+    }
+
+    #[inline(always)]
+    fn apply_two(&mut self, program: &Program<'_, A>, gate: Gate, a: u32, b: u32) {
+        program.well_formed();
+        self.machine.apply_two(gate, a, b);
+    }
+
+    #[inline(always)]
+    fn feed_back(&mut self, program: &Program<'_, A>, letter: Letter, q: u32, rec: u32) {
+        program.well_formed();
+        feed_back(&mut self.machine, letter, q, rec);
+    }
+
+    #[inline(always)]
+    fn collapse(
+        &mut self,
+        program: &Program<'_, A>,
+        letter: Letter,
+        qubit: u32,
+        rec: Option<u32>,
+        reset: bool,
+        inverted: bool,
+        flip: Option<FaultName>,
+    ) {
+        program.well_formed();
+        let changes = inverted ^ flip_happens(self.faults, flip);
+        collapse(&mut self.machine, letter, qubit, reset, rec, changes);
+    }
+
+    #[inline(always)]
+    fn collapse_word(
+        &mut self,
+        program: &Program<'_, A>,
+        letters: Letters<'_>,
+        rec: Option<u32>,
+        inverted: bool,
+        flip: Option<FaultName>,
+    ) {
+        program.well_formed();
+        let changes = inverted ^ flip_happens(self.faults, flip);
+        collapse_word(&mut self.machine, letters, rec, changes);
+    }
+
+    #[inline(always)]
+    fn fault(&mut self, program: &Program<'_, A>, name: FaultName, letters: Letters<'_>) {
+        program.well_formed();
+        take_fault(&mut self.machine, self.faults, name, letters);
     }
 
     #[inline(always)]

@@ -1,5 +1,6 @@
 //! A reference run is made: its records, and the words that its collapses replaced, where there is room for them.
-ghost use Rattle.std.specs.Prelude.{◌≡◌, [], true, length, IfOk, OnOk};
+ghost use Rattle.std.specs.Prelude.{◌≡◌, ◌+◌, ℕ, [], true, false, length, slice_get, IfOk, OnOk, Some};
+ghost use Rattle.circuit_walk.specs.Named.{IsStepOf};
 ghost use Rattle.circuit_walk.specs.Steps.{listed};
 ghost use Rattle.step_model.specs.Frames.{zero_coins};
 ghost use Rattle.step_model.specs.Runs.{next, records_of, start};
@@ -7,13 +8,15 @@ ghost use Rattle.forward_sim.specs.References.{walking_qubits, walking_run, AreE
 ghost use Rattle.forward_sim.specs.private.Kept.{StepIsKept, WalksTo};
 ghost use Rattle.forward_sim.specs.private.Said.{words_of};
 ghost use Rattle.forward_sim.specs.private.Machines.{CanTake};
-ghost use Rattle.forward_sim.specs.SameRuns.{IsSameRun};
+ghost use Rattle.forward_sim.specs.private.Takers.{IsKept};
 
 use crate::kept_words::KeptWords;
 use crate::records::Records;
 use crate::walking::WalkingRun;
 use crate::words::ReplacedWords;
-use circuit_walk::{Program, Step, StepTaker, take_all};
+use circuit_walk::{FaultName, Letters, Program, Step, StepTaker, take_all};
+use gate_table::Gate;
+use pauli_word::Letter;
 use std::alloc::{AllocError, Allocator};
 
 /// The records of a program's reference run, and what says which words its collapses replaced: the words themselves where
@@ -60,14 +63,22 @@ struct Keeping<A: Allocator + Copy> {
     failed: bool,
 }
 
-impl<A: Allocator + Copy> StepTaker<A> for Keeping<A> {
-    ghost use Rattle.std.specs.Prelude.{◌≡◌, false};
-    ghost use Rattle.forward_sim.specs.private.Takers.{IsKept};
-
-    ghost stands = { λ program begun k keeping. keeping.failed ≡ false → IsKept program.listing k keeping.walk keeping.kept };
-
-    #[inline(always)]
-    fn take(&mut self, program: &Program<'_, A>, step: Step<'_>) {
+impl<A: Allocator + Copy> Keeping<A> {
+    // Takes the next step, and keeps the word that it replaced if it is a collapse. It stays apart from the loops over targets.
+    #[inline(never)]
+    fn keep(&mut self, program: &Program<'_, A>, step: Step<'_>)
+        requires named { IsStepOf program.now step }
+        requires next { (k : ℕ)
+            × (self.old.failed ≡ false → IsKept program.now.listing k self.old.walk self.old.kept)
+            × (slice_get program.now.listing.steps k
+            ≡ Some (listed program.now.listing.qubits step)) }
+        ensures { (k : ℕ)
+            → (self.old.failed ≡ false → IsKept program.now.listing k self.old.walk self.old.kept)
+            → slice_get program.now.listing.steps k
+            ≡ Some (listed program.now.listing.qubits step.entry)
+            → self.new.failed ≡ false
+            → IsKept program.now.listing (k + 1) self.new.walk self.new.kept }
+    {
         program.well_formed();
         if self.failed {
             return;
@@ -76,6 +87,83 @@ impl<A: Allocator + Copy> StepTaker<A> for Keeping<A> {
             Ok(()) => {}
             Err(_) => self.failed = true,
         }
+    }
+}
+
+impl<A: Allocator + Copy> StepTaker<A> for Keeping<A> {
+    ghost use Rattle.std.specs.Prelude.{◌≡◌, false};
+    ghost use Rattle.forward_sim.specs.private.Takers.{IsKept};
+
+    ghost stands = { λ program begun k keeping. keeping.failed ≡ false → IsKept program.listing k keeping.walk keeping.kept };
+
+    #[inline(always)]
+    fn apply_one(&mut self, program: &Program<'_, A>, gate: Gate, q: u32) {
+        program.well_formed();
+        if !self.failed {
+            self.walk.apply_one(gate, q);
+        }
+    }
+
+    #[inline(always)]
+    fn apply_two(&mut self, program: &Program<'_, A>, gate: Gate, a: u32, b: u32) {
+        program.well_formed();
+        if !self.failed {
+            self.walk.apply_two(gate, a, b);
+        }
+    }
+
+    #[inline(always)]
+    fn feed_back(&mut self, program: &Program<'_, A>, letter: Letter, q: u32, rec: u32) {
+        program.well_formed();
+        if !self.failed {
+            self.walk.feed_back(letter, q, rec);
+        }
+    }
+
+    #[inline(always)]
+    fn collapse(
+        &mut self,
+        program: &Program<'_, A>,
+        letter: Letter,
+        qubit: u32,
+        rec: Option<u32>,
+        reset: bool,
+        inverted: bool,
+        flip: Option<FaultName>,
+    ) {
+        let step = Step::Collapse {
+            letter,
+            qubit,
+            rec,
+            reset,
+            inverted,
+            flip,
+        };
+        self.keep(program, step);
+    }
+
+    #[inline(always)]
+    fn collapse_word(
+        &mut self,
+        program: &Program<'_, A>,
+        letters: Letters<'_>,
+        rec: Option<u32>,
+        inverted: bool,
+        flip: Option<FaultName>,
+    ) {
+        let step = Step::CollapseWord {
+            letters,
+            rec,
+            inverted,
+            flip,
+        };
+        self.keep(program, step);
+    }
+
+    // It doesn't happen.
+    #[inline(always)]
+    fn fault(&mut self, program: &Program<'_, A>, _name: FaultName, _letters: Letters<'_>) {
+        program.well_formed();
     }
 
     // No fault happens at all.

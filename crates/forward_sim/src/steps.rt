@@ -1,4 +1,5 @@
-ghost use Rattle.std.specs.Prelude.{◌≡◌, ◌+◌, ◌<◌, ◌≤◌, false, if◌then◌else◌, is_some, length, option_map, slice_index_or};
+//! What a run does at each kind of step. (What is long stays apart, so that a loop over the targets of an instruction is small.)
+ghost use Rattle.std.specs.Prelude.{◌≡◌, ◌+◌, ◌<◌, ◌≤◌, false, if◌then◌else◌, is_some, length, None, option_map, slice_index_or};
 ghost use Rattle.circuit_walk.specs.Letters.{AreSmall, letters_in};
 ghost use Rattle.circuit_walk.specs.Steps.{listed, number_of};
 ghost use Rattle.pauli_word.specs.States.{applied};
@@ -50,19 +51,18 @@ pub(crate) fn take_step<A: Allocator + Copy>(
             inverted,
             flip,
         } => {
-            let seen = measure_product(machine, letters);
-            machine.keep(rec, seen ^ (inverted ^ flip_happens(faults, flip)));
+            let changes = inverted ^ flip_happens(faults, flip);
+            collapse_word(machine, letters, rec, changes);
         }
         Step::Fault { name, letters } => take_fault(machine, faults, name, letters),
         Step::Feedback { letter, q, rec } => feed_back(machine, letter, q, rec),
     }
 }
 
-// Measures a letter at a qubit, resets the qubit where `reset`, and records the outcome, inverted where `changes`, where
-// there is a number for it. (This and what follows stay apart, so that a loop over steps is small enough to be made for each
-// operation.)
+/// Measures a letter at a qubit, resets the qubit where `reset`, and records the outcome, inverted where `changes`, where
+/// there is a number for it.
 #[inline(never)]
-fn collapse<A: Allocator + Copy>(
+pub(crate) fn collapse<A: Allocator + Copy>(
     machine: &mut Machine<'_, A>,
     letter: Letter,
     qubit: u32,
@@ -101,9 +101,28 @@ fn end_collapse<A: Allocator + Copy>(
     machine.keep(rec, seen ^ changes);
 }
 
-// Applies the letters of a fault, where it happens.
+/// Measures a Pauli product, and records the outcome, inverted where `changes`, where there is a number for it.
 #[inline(never)]
-fn take_fault<A: Allocator + Copy>(
+pub(crate) fn collapse_word<A: Allocator + Copy>(
+    machine: &mut Machine<'_, A>,
+    letters: Letters<'_>,
+    rec: Option<u32>,
+    changes: bool,
+)
+    requires small { AreSmall letters }
+    requires fit { TermsFit (qubit_count machine.old) (letters_in letters) }
+    requires room { length machine.old.records + (if is_some rec then 1 else 0) ≤ machine.old.room }
+    ensures { ComesTo machine.old machine.new
+        (after_collapse (word_of_terms (qubit_count machine.old) (letters_in letters.entry)) None
+        (is_some rec) changes (run_of machine.old)) }
+{
+    let seen = measure_product(machine, letters);
+    machine.keep(rec, seen ^ changes);
+}
+
+/// Applies the letters of a fault, where it happens.
+#[inline(never)]
+pub(crate) fn take_fault<A: Allocator + Copy>(
     machine: &mut Machine<'_, A>,
     faults: &[bool],
     name: FaultName,
@@ -122,9 +141,9 @@ fn take_fault<A: Allocator + Copy>(
     }
 }
 
-// Applies a letter at a qubit, where a record is 1.
+/// Applies a letter at a qubit, where a record is 1.
 #[inline(never)]
-fn feed_back<A: Allocator + Copy>(
+pub(crate) fn feed_back<A: Allocator + Copy>(
     machine: &mut Machine<'_, A>,
     letter: Letter,
     qubit: u32,
@@ -141,8 +160,8 @@ fn feed_back<A: Allocator + Copy>(
     }
 }
 
-// Whether the fault that flips a record happens, if there is one.
-fn flip_happens(faults: &[bool], flip: Option<FaultName>) -> bool
+/// Whether the fault that flips a record happens, if there is one.
+pub(crate) fn flip_happens(faults: &[bool], flip: Option<FaultName>) -> bool
     ensures { result ≡ flip_happens faults.now (option_map number_of flip) }
 {
     match flip {

@@ -24,7 +24,7 @@ use Rattle.frames.specs.Batches.{start_frame}
 use Rattle.frames.specs.Carried.{NoneRandom, carried_frame}
 use Rattle.frames.specs.LaneFrames.{LaneFrames, GoesTo, frame_in}
 use Rattle.frames.specs.private.Followed.{followed}
-use Rattle.frames.proofs.Detections.{undone}
+use Rattle.frames.proofs.TargetFlips.{undone}
 
 -- where nothing is kept of a collapse, a frame is carried and not turned
 followed-none : (program : Listing) (faults : List Bool) (coin : Bool) (step : ListedStep) (v : Frame) → followed program faults None coin step v ≡ carried_with program [] faults step v

@@ -1,9 +1,8 @@
 -- The frame behind a step, as the loops over lanes make it.
 use Rattle.std.proofs.lemmas.List as lists
-use Rattle.std.proofs.Common.{◌∷◌, ◌++◌, append-nil, ap₂, get_or, set, ◌≡◌, ℕ, Bool, true, false, List, [], length, Option, None, Some, is_some, refl, sym, ap, ◌∙◌}
+use Rattle.std.proofs.Common.{◌∷◌, ◌++◌, append-nil, ap₂, get_or, set, ◌≡◌, ℕ, Bool, true, false, List, [], length, Option, None, Some, is_some, refl, subst, sym, ap, ◌∙◌}
 use Rattle.std.specs.Prelude.{if◌then◌else◌, option_map}
 use Rattle.bit_rows.specs.Lanes.{lane, lane_bit}
-use Rattle.bit_rows.proofs.LaneLaws.{lane_bit-zero}
 use Rattle.pauli_word.specs.declared.letter.Letter.{Letter}
 use Rattle.pauli_word.specs.declared.letter.Letter.TheVariants.{I}
 use Rattle.pauli_word.specs.Parity.{exclusive_or}
@@ -17,10 +16,10 @@ use Rattle.circuit_walk.specs.Programs.{KeptProgram}
 use Rattle.circuit_walk.specs.Steps.{measured, number_of, recorded}
 use Rattle.step_model.specs.declared.step.Term.{Term}
 use Rattle.step_model.specs.Frames.{Frame}
-use Rattle.step_model.specs.Listing.{Listing, ListedStep, One, Two, Collapse, Fault, Feedback, Measured, Word, effect_word, measured_word, step_records, fault_word, word_of_terms}
+use Rattle.step_model.specs.Listing.{Listing, Collapse, Fault, Measured, Word, effect_word, measured_word, step_records, fault_word, word_of_terms}
 use Rattle.step_model.specs.Runs.{flip_happens}
-use Rattle.step_model.specs.Sensitivities.{multiplied}
-use Rattle.frames.specs.private.Followed.{Turns, TurnsAt, flips_in, followed, multiplied_in, reset_in, turned, turned_in, turned_where}
+use Rattle.step_model.specs.Sensitivities.{cleared, multiplied}
+use Rattle.frames.specs.private.Followed.{Turns, flips_in, followed, multiplied_in, reset_in, turned, turned_in, turned_where}
 use Rattle.frames.specs.LaneFrames.{LaneFrames, frame_in, GoesTo, with_record}
 use Rattle.frames.specs.LaneLetters.{word_in}
 use Rattle.frames.proofs.FollowLaw.{turned-flip}
@@ -87,28 +86,58 @@ goes_cleared n replaced coins letter q old mid new moved clears =
     goes_as old new _ _ (goes_then old mid new _ _ moved clears)
     (λ j. ap (frame_with (set (turned n replaced (lane_bit j coins) (lone_letter n q letter) (frame_in j old)).word q I)) (turned-records n replaced _ (frame_in j old)))
 
--- frames that were turned, and then had their flips recorded, went over a collapse of a word that resets no qubit
-module _ (program : Listing) (faults : List ℕ) (replaced : Option (List Term)) (coins flips hits total : ℕ) (w : List Letter)
+-- frames that were turned, cleared where the collapse resets, and then had their flips recorded, went over a collapse
+module _ (program : Listing) (faults : List ℕ) (replaced : Option (List Term)) (coins flips hits total : ℕ) (c : Measured)
     (inverted : Bool) (flip : Option FaultName) (old mid new : LaneFrames)
-    (moved : GoesTo old mid (turned_in program.qubits replaced coins w))
-    (flips_are : (j : ℕ) → lane_bit j flips ≡ flips_in program.qubits replaced coins w old j)
+    (moved : GoesTo old mid (λ j v. record v { word = cleared c (turned program.qubits replaced (lane_bit j coins) (measured_word program.qubits c) v).word }))
+    (flips_are : (j : ℕ) → lane_bit j flips ≡ flips_in program.qubits replaced coins (measured_word program.qubits c) old j)
     (hits_are : (j : ℕ) → lane_bit j hits ≡ flip_happens (lane j faults) (option_map number_of flip))
     (total_is : (j : ℕ) → lane_bit j total ≡ exclusive_or (lane_bit j flips) (lane_bit j hits)) where
-  pub collapse_followed : (rec : Option ℕ) → GoesTo mid new (λ j v. with_record rec (lane_bit j total) v)
-      → GoesTo old new (λ j v. followed program (lane j faults) replaced (lane_bit j coins) (Collapse (Word w) (recorded rec inverted flip)) v)
+  collapse_followed : (rec : Option ℕ) → GoesTo mid new (λ j v. with_record rec (lane_bit j total) v)
+      → GoesTo old new (λ j v. followed program (lane j faults) replaced (lane_bit j coins) (Collapse c (recorded rec inverted flip)) v)
   collapse_followed None goes =
-      goes_as old new _ _ (goes_then old mid new (turned_in program.qubits replaced coins w) _ moved goes)
+      goes_as old new _ _ (goes_then old mid new _ _ moved goes)
       (λ j.
-      let u = turned program.qubits replaced (lane_bit j coins) w (frame_in j old) in
-      ap (frame_with u.word) (sym (append-nil u.records)))
+      let u = turned program.qubits replaced (lane_bit j coins) (measured_word program.qubits c) (frame_in j old) in
+      ap (frame_with (cleared c u.word)) (sym (append-nil u.records ∙ turned-records program.qubits replaced _ (frame_in j old))))
   collapse_followed (Some r) goes =
-      goes_as old new _ _ (goes_then old mid new (turned_in program.qubits replaced coins w) _ moved goes)
+      goes_as old new _ _ (goes_then old mid new _ _ moved goes)
       (λ j.
-      let u = turned program.qubits replaced (lane_bit j coins) w (frame_in j old) in
+      let u = turned program.qubits replaced (lane_bit j coins) (measured_word program.qubits c) (frame_in j old) in
       let named = option_map number_of flip in
-      ap (λ b. frame_with u.word (u.records ++ b ∷ []))
+      ap₂ (λ rs b. frame_with (cleared c u.word) (rs ++ b ∷ [])) (sym (turned-records program.qubits replaced _ (frame_in j old)))
       (total_is j
       ∙ ap₂ exclusive_or (flips_are j) (hits_are j ∙ sym (ap (λ b. exclusive_or b (flip_happens (lane j faults) named)) (none-happens named)))))
+
+-- a collapse of a letter, and one of a product
+module _ (program : Listing) (faults : List ℕ) (replaced : Option (List Term)) (coins flips hits total : ℕ)
+    (inverted : Bool) (flip : Option FaultName) (old mid new : LaneFrames) (size : length old.letters ≡ program.qubits)
+    (hits_are : (j : ℕ) → lane_bit j hits ≡ flip_happens (lane j faults) (option_map number_of flip))
+    (total_is : (j : ℕ) → lane_bit j total ≡ exclusive_or (lane_bit j flips) (lane_bit j hits))
+    (rec : Option ℕ) (goes : GoesTo mid new (λ j v. with_record rec (lane_bit j total) v)) where
+  pub letter_followed : (reset : Bool) (letter : Letter) (q : ℕ)
+      → GoesTo old mid (reset_in (length old.letters) replaced coins reset letter q)
+      → ((j : ℕ) → lane_bit j flips ≡ flips_in (length old.letters) replaced coins (lone_letter (length old.letters) q letter) old j)
+      → GoesTo old new (λ j v. followed program (lane j faults) replaced (lane_bit j coins) (Collapse (measured program.qubits reset letter q) (recorded rec inverted flip)) v)
+  letter_followed true letter q moved flips_are =
+      collapse_followed program faults replaced coins flips hits total (measured program.qubits true letter q) inverted flip old mid new
+      (subst (λ n. GoesTo old mid (reset_in n replaced coins true letter q)) size moved)
+      (λ j. flips_are j ∙ ap (λ n. flips_in n replaced coins (lone_letter n q letter) old j) size) hits_are total_is rec goes
+  letter_followed false letter q moved flips_are =
+      collapse_followed program faults replaced coins flips hits total (measured program.qubits false letter q) inverted flip old mid new
+      (subst (λ n. GoesTo old mid (reset_in n replaced coins false letter q)) size moved)
+      (λ j. flips_are j ∙ ap (λ n. flips_in n replaced coins (lone_letter n q letter) old j) size) hits_are total_is rec goes
+
+  pub product_followed : (terms : List Term)
+      → GoesTo old mid (turned_in (length old.letters) replaced coins (word_of_terms (length old.letters) terms))
+      → ((j : ℕ) → lane_bit j flips ≡ flips_in (length old.letters) replaced coins (word_of_terms (length old.letters) terms) old j)
+      → GoesTo old new (λ j v. followed program (lane j faults) replaced (lane_bit j coins) (Collapse (Word (word_of_terms program.qubits terms)) (recorded rec inverted flip)) v)
+  product_followed terms moved flips_are =
+      let n = program.qubits in
+      collapse_followed program faults replaced coins flips hits total (Word (word_of_terms n terms)) inverted flip old mid new
+      (goes_as old mid _ _ (subst (λ m. GoesTo old mid (turned_in m replaced coins (word_of_terms m terms))) size moved)
+      (λ j. turned-frame n replaced _ (frame_in j old)))
+      (λ j. flips_are j ∙ ap (λ m. flips_in m replaced coins (word_of_terms m terms) old j) size) hits_are total_is rec goes
 
 -- frames that were multiplied by the letters of a fault where it happens went over it
 pub fault_followed : (program : KeptProgram) (faults : List ℕ) (replaced : Option (List Term)) (coins runs : ℕ) (name : FaultName) (letters : Letters) (old new : LaneFrames)
@@ -121,18 +150,3 @@ fault_followed program faults replaced coins runs name letters old new size name
     ap (λ n. word_of_terms n (letters_in letters)) size ∙ sym (ap (effect_word program.listing.qubits) named.1) in
     goes_as old new _ _ goes
     (λ j. ap₂ (λ b w. record (frame_in j old) { word = multiplied b w (frame_in j old).word }) (happens j) word)
-
--- where nothing is kept of a collapse, nothing is asked of it
-pub no_turns : (n : ℕ) (step : ListedStep) → TurnsAt n None step
-no_turns n (One gate q) = tt
-no_turns n (Two gate a b) = tt
-no_turns n (Collapse c r) = tt
-no_turns n (Fault f) = tt
-no_turns n (Feedback w r) = tt
-
--- a fault that happens in no run changes no frame
-pub quiet_fault : (faults : List ℕ) (f word : ℕ) → ((j : ℕ) → lane_bit j word ≡ get_or (lane j faults) f false) → word ≡ 0
-    → (program : Listing) (j : ℕ) (coin : Bool) (v : Frame) → followed program (lane j faults) None coin (Fault f) v ≡ v
-quiet_fault faults f word is none program j coin v =
-    ap (λ b. record v { word = multiplied b (fault_word program f) v.word })
-    (sym (is j) ∙ (ap (lane_bit j) none ∙ lane_bit-zero j))

@@ -213,7 +213,7 @@ at_start f n letters flips j =
     ∙ ap (λ w. frame_with w []) (word_in-none j n ∙ ap no_letters (sym (ap length letters ∙ lists.length-replicate n none_at)))
 
 -- a slice that is written back to the vector that lent it
-pub written : (len : ℕ) (new items : List LaneLetters) → length new ≡ len → take len (new ++ drop (length new) items) ≡ new
+pub written : {A : Type 0} (len : ℕ) (new items : List A) → length new ≡ len → take len (new ++ drop (length new) items) ≡ new
 written len new items size = ap (λ k. take k (new ++ drop (length new) items)) (sym size) ∙ take-append_seam new (drop (length new) items)
 
 -- a record's flip, and the reference's record

@@ -4,7 +4,8 @@ mod StillFrames
 mod TermWords
 pub mod Beside
 pub mod CarriedFrames
-pub mod Detections
+pub mod Detected
+pub mod TargetFlips
 pub mod FollowedSteps
 pub mod FollowLaw
 pub mod FollowerLemmas

@@ -9,3 +9,4 @@ pub mod WritesShots
 pub mod Quiet
 pub mod Beside
 pub mod Takers
+pub mod Detected

@@ -7,8 +7,10 @@ ghost use Rattle.frames.specs.LaneFrames.{frame_in};
 
 use crate::frames::Frames;
 use crate::quiet::quiet_count;
-use crate::steps::carry_over;
-use circuit_walk::{Program, Step, StepTaker, take_all};
+use crate::steps::{apply_fault, collapse, collapse_word, feed_back, move_one, move_two};
+use circuit_walk::{FaultName, Letters, Program, StepTaker, take_all};
+use gate_table::Gate;
+use pauli_word::Letter;
 use std::alloc::Allocator;
 
 /// Frames of 64 runs, with no run beside them. Where `still` all of them are I.
@@ -27,9 +29,78 @@ impl<'r, A: Allocator + Copy> StepTaker<A> for Carrying<'r, A> {
         × IsCarrying program.listing begun.faults.now k run.faults.now run.still run.frames.now };
 
     #[inline(always)]
-    fn take(&mut self, program: &Program<'_, A>, step: Step<'_>) {
+    fn apply_one(&mut self, program: &Program<'_, A>, gate: Gate, q: u32) {
         program.well_formed();
-        self.still = carry_over(self.frames, program, self.faults, self.still, step);
+        move_one(self.frames, program, self.still, gate, q);
+    }
+
+    #[inline(always)]
+    fn apply_two(&mut self, program: &Program<'_, A>, gate: Gate, a: u32, b: u32) {
+        program.well_formed();
+        move_two(self.frames, program, self.still, gate, a, b);
+    }
+
+    #[inline(always)]
+    fn feed_back(&mut self, program: &Program<'_, A>, letter: Letter, q: u32, rec: u32) {
+        program.well_formed();
+        feed_back(self.frames, program, letter, q, rec);
+        self.still = false;
+    }
+
+    #[inline(always)]
+    fn collapse(
+        &mut self,
+        program: &Program<'_, A>,
+        letter: Letter,
+        qubit: u32,
+        rec: Option<u32>,
+        reset: bool,
+        _inverted: bool,
+        flip: Option<FaultName>,
+    ) {
+        program.well_formed();
+        collapse(
+            self.frames,
+            program,
+            self.faults,
+            None,
+            0,
+            letter,
+            qubit,
+            rec,
+            reset,
+            flip,
+        );
+        self.still = false;
+    }
+
+    #[inline(always)]
+    fn collapse_word(
+        &mut self,
+        program: &Program<'_, A>,
+        letters: Letters<'_>,
+        rec: Option<u32>,
+        _inverted: bool,
+        flip: Option<FaultName>,
+    ) {
+        program.well_formed();
+        collapse_word(
+            self.frames,
+            program,
+            self.faults,
+            None,
+            0,
+            letters,
+            rec,
+            flip,
+        );
+        self.still = false;
+    }
+
+    #[inline(always)]
+    fn fault(&mut self, program: &Program<'_, A>, name: FaultName, letters: Letters<'_>) {
+        program.well_formed();
+        self.still = apply_fault(self.frames, program, self.faults, self.still, name, letters);
     }
 
     #[inline(always)]

@@ -1,10 +1,10 @@
 ghost use Rattle.std.specs.Prelude.{◌≡◌, ◌<◌, ◌≤◌, ◌+◌, ℕ, false, length, slice_index_or, IfOk, IfErr};
-ghost use Rattle.bit_rows.specs.Lanes.{lane_bit};
+ghost use Rattle.bit_rows.specs.Lanes.{lane, lane_bit};
 ghost use Rattle.step_model.specs.Faults.{memory_fault};
-ghost use Rattle.step_model.specs.Listing.{Listing};
 ghost use Rattle.step_model.specs.Targets.{difference, targets_of};
 ghost use Rattle.frames.specs.Batches.{AreRuns, DontCount, IsBatchOf, shot_records};
 
+use crate::detections::detect;
 use crate::follow::follow_steps;
 use crate::frames::Frames;
 use bit_rows::lanes::{bit, spread, xor};
@@ -13,7 +13,6 @@ use forward_sim::{Reference, Span};
 use std::alloc::{AllocError, Allocator};
 use std::marker::Model;
 use step_model::Fault;
-use target_lists::TargetRecords;
 
 /// 64 runs (shots) of a program side by side, each with its own faults and coins: bit j of a word belongs to run j, the
 /// lowest bit to run 0. Each run is followed by its Pauli frame beside a reference run, whose records are made once. (A
@@ -119,19 +118,17 @@ impl<A: Allocator + Copy> Batch<A> {
         xor(self.frames.flips(index), spread(value))
     }
 
-    /// In which runs the parity of a target differs from that in the reference run, a bit a run: detection events, and
-    /// flips of observables. Detectors are numbered first, then observables. `targets` are those of the program.
-    pub fn detections_word(&self, targets: &TargetRecords<A>, number: usize) -> u64
-        requires { number < length targets.now }
-        ensures { (program : Listing)
-            → targets.now ≡ targets_of program
-            → (j : ℕ)
-            → lane_bit j result
-            ≡ slice_index_or
-            (difference program (shot_records j self.now) self.now.reference.records)
-            number false }
+    /// Fills a word for each target, detectors first, then observables: in which runs its parity differs from that in the
+    /// reference run, a bit a run. These are detection events, and flips of observables. Allocates nothing.
+    pub(crate) fn detect(&self, program: &Program<'_, A>, words: &mut [u64])
+        requires { length words.old ≡ length (targets_of program.now.listing) }
+        ensures size { length words.new ≡ length words.old }
+        ensures lanes { (j : ℕ)
+            → lane j words.new
+            ≡ difference program.now.listing (shot_records j self.now)
+            self.now.reference.records }
     {
-        self.frames.parity(targets.get(number))
+        detect(&self.frames, program, words);
     }
 }
 

@@ -9,9 +9,11 @@ ghost use Rattle.frames.specs.Batches.{AreAtStart};
 
 use crate::frames::Frames;
 use crate::quiet::quiet_count;
-use crate::steps::{carry_over, take_step, word_at};
-use circuit_walk::{Program, Step, StepTaker, take_all};
+use crate::steps::{apply_fault, collapse, collapse_word, feed_back, move_one, move_two, word_at};
+use circuit_walk::{FaultName, Letters, Program, Step, StepTaker, take_all};
 use forward_sim::Reference;
+use gate_table::Gate;
+use pauli_word::Letter;
 use std::alloc::Allocator;
 
 /// Frames of 64 runs beside their reference run, behind so many collapses. Where `still` all of them are I.
@@ -35,25 +37,104 @@ impl<'r, A: Allocator + Copy> StepTaker<A> for Following<'r, A> {
         run.faults.now run.coins.now run.collapse run.still run.frames.now run.reference.now };
 
     #[inline(always)]
-    fn take(&mut self, program: &Program<'_, A>, step: Step<'_>) {
+    fn apply_one(&mut self, program: &Program<'_, A>, gate: Gate, q: u32) {
+        program.well_formed();
+        self.reference.go_over(program, &Step::One { gate, q });
+        move_one(self.frames, program, self.still, gate, q);
+    }
+
+    #[inline(always)]
+    fn apply_two(&mut self, program: &Program<'_, A>, gate: Gate, a: u32, b: u32) {
+        program.well_formed();
+        self.reference.go_over(program, &Step::Two { gate, a, b });
+        move_two(self.frames, program, self.still, gate, a, b);
+    }
+
+    #[inline(always)]
+    fn feed_back(&mut self, program: &Program<'_, A>, letter: Letter, q: u32, rec: u32) {
+        program.well_formed();
+        self.reference
+            .go_over(program, &Step::Feedback { letter, q, rec });
+        feed_back(self.frames, program, letter, q, rec);
+        self.still = false;
+    }
+
+    #[inline(always)]
+    fn collapse(
+        &mut self,
+        program: &Program<'_, A>,
+        letter: Letter,
+        qubit: u32,
+        rec: Option<u32>,
+        reset: bool,
+        inverted: bool,
+        flip: Option<FaultName>,
+    ) {
         program.well_formed();
         let _collapses = program.collapse_count();
+        let step = Step::Collapse {
+            letter,
+            qubit,
+            rec,
+            reset,
+            inverted,
+            flip,
+        };
         self.reference.go_over(program, &step);
-        if step.is_collapse() {
-            let replaced = self.reference.replaced(self.collapse);
-            take_step(
-                self.frames,
-                program,
-                self.faults,
-                replaced,
-                word_at(self.coins, self.collapse),
-                step,
-            );
-            self.collapse += 1;
-            self.still = false;
-        } else {
-            self.still = carry_over(self.frames, program, self.faults, self.still, step);
-        }
+        collapse(
+            self.frames,
+            program,
+            self.faults,
+            self.reference.replaced(self.collapse),
+            word_at(self.coins, self.collapse),
+            letter,
+            qubit,
+            rec,
+            reset,
+            flip,
+        );
+        self.collapse += 1;
+        self.still = false;
+    }
+
+    #[inline(always)]
+    fn collapse_word(
+        &mut self,
+        program: &Program<'_, A>,
+        letters: Letters<'_>,
+        rec: Option<u32>,
+        inverted: bool,
+        flip: Option<FaultName>,
+    ) {
+        program.well_formed();
+        let _collapses = program.collapse_count();
+        let step = Step::CollapseWord {
+            letters,
+            rec,
+            inverted,
+            flip,
+        };
+        self.reference.go_over(program, &step);
+        collapse_word(
+            self.frames,
+            program,
+            self.faults,
+            self.reference.replaced(self.collapse),
+            word_at(self.coins, self.collapse),
+            letters,
+            rec,
+            flip,
+        );
+        self.collapse += 1;
+        self.still = false;
+    }
+
+    #[inline(always)]
+    fn fault(&mut self, program: &Program<'_, A>, name: FaultName, letters: Letters<'_>) {
+        program.well_formed();
+        self.reference
+            .go_over(program, &Step::Fault { name, letters });
+        self.still = apply_fault(self.frames, program, self.faults, self.still, name, letters);
     }
 
     // A fault that doesn't happen leaves the reference run as it is too.

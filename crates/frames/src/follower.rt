@@ -2,33 +2,30 @@
 ghost use Rattle.std.specs.Prelude.{◌≡◌, ◌<◌, ◌≤◌, ℕ, false, slice_index_or, IfOk, IfErr};
 ghost use Rattle.bit_rows.specs.Lanes.{lane, lane_bit};
 ghost use Rattle.step_model.specs.Faults.{memory_fault};
-ghost use Rattle.step_model.specs.Listing.{Listing};
 ghost use Rattle.frames.specs.Carried.{NoneRandom};
 ghost use Rattle.frames.specs.declared.side_runs.Shown.TheVariants as kind;
 ghost use Rattle.frames.specs.private.Followers.{Follows, kind_of, value_count, shown_by};
 ghost use Rattle.frames.specs.private.ShownRuns.{DontShow, shown_of};
 
-use crate::alone::carry_alone;
-use crate::batch::{Batch, start};
-use crate::frames::Frames;
+use crate::batch::Batch;
 use crate::side_runs::Shown;
+use crate::target_words::{WordsAlone, WordsBeside};
 use circuit_walk::Program;
 use forward_sim::Span;
 use std::alloc::Allocator;
 use step_model::Fault;
-use target_lists::TargetRecords;
 
-/// What follows 64 runs: their frames, beside a reference run, which show their records, or their detections by the records of each
+/// What follows 64 runs: their frames, beside a reference run, which show their records, or their detections, a word for each
 /// target; or alone, without a reference run and without coins, which show detections where no target is random.
 #[derive(Drop)]
 pub(crate) enum Follower<A: Allocator + Copy> {
     Records(Batch<A>),
-    Detections(Batch<A>, TargetRecords<A>),
-    Alone(Frames<A>, TargetRecords<A>),
+    Detections(WordsBeside<A>),
+    Alone(WordsAlone<A>),
 }
 
 impl<A: Allocator + Copy> Follower<A> {
-    /// Frames beside a reference run, which is made here, as are the lists of targets where detections are shown.
+    /// Frames beside a reference run, which is made here.
     pub(crate) fn beside(alloc: A, program: &Program<'_, A>, shown: Shown) -> Result<Self, Fault>
         ensures follows { IfOk result (Follows program.now.listing) }
         ensures kind { IfOk result (λ follower. kind_of follower ≡ shown) }
@@ -38,8 +35,8 @@ impl<A: Allocator + Copy> Follower<A> {
         match shown {
             Shown::Records => Ok(Follower::Records(batch)),
             Shown::Detections => {
-                let targets = TargetRecords::of(alloc, program)?;
-                Ok(Follower::Detections(batch, targets))
+                let beside = WordsBeside::new(alloc, program, batch)?;
+                Ok(Follower::Detections(beside))
             }
         }
     }
@@ -51,9 +48,8 @@ impl<A: Allocator + Copy> Follower<A> {
         ensures kind { IfOk result (λ follower. kind_of follower ≡ kind.Detections) }
         ensures err { IfErr result (λ fault. fault ≡ memory_fault) }
     {
-        let frames = start(alloc, program)?;
-        let targets = TargetRecords::of(alloc, program)?;
-        Ok(Follower::Alone(frames, targets))
+        let alone = WordsAlone::new(alloc, program)?;
+        Ok(Follower::Alone(alone))
     }
 
     /// Collapses whose coins don't count for what is shown: of frames alone none does.
@@ -66,8 +62,8 @@ impl<A: Allocator + Copy> Follower<A> {
         program.well_formed();
         match self {
             Follower::Records(batch) => batch.coins_that_dont_count(program),
-            Follower::Detections(batch, _) => batch.coins_that_dont_count(program),
-            Follower::Alone(_, _) => Span {
+            Follower::Detections(beside) => beside.batch.coins_that_dont_count(program),
+            Follower::Alone(_) => Span {
                 start: 0,
                 end: program.collapse_count() as usize,
             },
@@ -80,18 +76,15 @@ impl<A: Allocator + Copy> Follower<A> {
         ensures follows { Follows program.now.listing self.new }
         ensures kind { kind_of self.new ≡ kind_of self.old }
         ensures runs { (j : ℕ)
-            → shown_by program.now.listing j self.new
+            → shown_by j self.new
             ≡ shown_of (kind_of self.old) program.now.listing (lane j faults.now)
             (lane j coins.now) }
     {
         program.well_formed();
         match self {
             Follower::Records(batch) => batch.follow(program, faults, coins),
-            Follower::Detections(batch, _) => batch.follow(program, faults, coins),
-            Follower::Alone(frames, _) => {
-                frames.restart();
-                carry_alone(frames, program, faults);
-            }
+            Follower::Detections(beside) => beside.follow(program, faults, coins),
+            Follower::Alone(alone) => alone.follow(program, faults),
         }
     }
 
@@ -99,16 +92,14 @@ impl<A: Allocator + Copy> Follower<A> {
     #[inline(always)]
     pub(crate) fn word(&self, index: usize) -> u64
         requires { index < value_count self.now }
-        ensures { (program : Listing)
-            → Follows program self.now
-            → (j : ℕ)
+        ensures { (j : ℕ)
             → j < 64
-            → lane_bit j result ≡ slice_index_or (shown_by program j self.now) index false }
+            → lane_bit j result ≡ slice_index_or (shown_by j self.now) index false }
     {
         match self {
             Follower::Records(batch) => batch.records_word(index),
-            Follower::Detections(batch, targets) => batch.detections_word(targets, index),
-            Follower::Alone(frames, targets) => frames.parity(targets.get(index)),
+            Follower::Detections(beside) => beside.words[index],
+            Follower::Alone(alone) => alone.words[index],
         }
     }
 }

@@ -3,6 +3,7 @@ ghost use Rattle.gate_table.specs.Images.{arity_of};
 ghost use Rattle.gate_table.specs.WordImages.{image_at, image_at_two};
 ghost use Rattle.bit_rows.specs.Lanes.{lane, lane_bit};
 ghost use Rattle.circuit_walk.specs.Letters.{AreSmall, letters_in};
+ghost use Rattle.circuit_walk.specs.NamedRecords.{records_in};
 ghost use Rattle.forward_sim.specs.References.{terms_at, terms_in};
 ghost use Rattle.pauli_word.specs.declared.letter.Letter.TheVariants.{I};
 ghost use Rattle.pauli_word.specs.Words.{anticommute, letter_at, lone_letter, signed};
@@ -17,7 +18,7 @@ ghost use Rattle.frames.specs.private.Followed.{multiplied_in};
 use crate::letters::{LaneLetters, clear_all, multiply_letter};
 use crate::steps::word_at;
 use bit_rows::lanes::xor;
-use circuit_walk::Letters;
+use circuit_walk::{Letters, NamedRecords};
 use forward_sim::ReplacedWord;
 use gate_table::Gate;
 use pauli_word::Letter;
@@ -120,7 +121,8 @@ impl<A: Allocator + Copy> Frames<A> {
         self.put(qubit, letters);
     }
 
-    /// Multiplies the frames of these runs by a product of letters at qubits.
+    /// Multiplies the frames of these runs by a product of letters at qubits. It stands apart, since few faults happen.
+    #[inline(never)]
     pub(crate) fn times_letters(&mut self, letters: Letters<'_>, runs: u64)
         requires small { AreSmall letters }
         requires inside { TermsFit (length self.old.letters) (letters_in letters) }
@@ -135,7 +137,8 @@ impl<A: Allocator + Copy> Frames<A> {
         }
     }
 
-    /// Multiplies the frames of these runs by a word.
+    /// Multiplies the frames of these runs by a word. It stands apart, since few outcomes are random.
+    #[inline(never)]
     pub(crate) fn times_word(&mut self, word: ReplacedWord<'_>, runs: u64)
         requires { TermsFit (length self.old.letters) (terms_in word) }
         ensures { GoesTo self.old self.new
@@ -193,12 +196,16 @@ impl<A: Allocator + Copy> Frames<A> {
     }
 
     /// The parity of the flips of these records. One that is named twice counts twice.
-    pub(crate) fn parity(&self, named: &[u32]) -> u64
-        ensures { (j : ℕ) → lane_bit j result ≡ parity named.now (lane j self.now.flips) }
+    #[inline(always)]
+    pub(crate) fn parity(&self, named: NamedRecords<'_>) -> u64
+        ensures { (j : ℕ)
+            → lane_bit j result ≡ parity (records_in named.entry) (lane j self.now.flips) }
     {
         let mut odd = 0;
-        for index in named {
-            odd = xor(odd, self.flips(*index as usize));
+        let mut left = named;
+        while let Some((rec, rest)) = left.split_first() {
+            odd = xor(odd, self.flips(rec as usize));
+            left = rest;
         }
         odd
     }

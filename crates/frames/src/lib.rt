@@ -11,6 +11,7 @@ mod batch;
 mod batches;
 mod carry;
 mod collapses;
+mod detections;
 mod follow;
 mod follower;
 mod frame;
@@ -22,6 +23,7 @@ mod quiet;
 mod shots;
 mod side_runs;
 mod steps;
+mod target_words;
 mod words;
 
 pub use batch::Batch;

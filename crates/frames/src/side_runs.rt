@@ -1,7 +1,6 @@
 //! Runs of a program, 64 side by side, of which the records or the detections are shown.
 ghost use Rattle.std.specs.Prelude.{◌≡◌, ◌<◌, ℕ, false, length, slice_index, slice_index_or};
 ghost use Rattle.bit_rows.specs.Lanes.{lane, lane_bit};
-ghost use Rattle.step_model.specs.Listing.{Listing};
 ghost use Rattle.frames.specs.private.Followers.{Follows, kind_of, value_count, shown_by};
 ghost use Rattle.frames.specs.private.ShownRuns.{shown_count, shown_of};
 
@@ -100,14 +99,12 @@ pub(crate) fn count<A: Allocator + Copy>(program: &Program<'_, A>, shown: Shown)
 fn fill<A: Allocator + Copy>(words: &mut [u64], follower: &Follower<A>)
     requires { length words.old ≡ value_count follower.now }
     ensures size { length words.new ≡ length words.old }
-    ensures filled { (program : Listing)
-        → Follows program follower.now
-        → (index : ℕ)
+    ensures filled { (index : ℕ)
         → index < length words.old
         → (j : ℕ)
         → j < 64
         → lane_bit j (slice_index words.new index)
-        ≡ slice_index_or (shown_by program j follower.now) index false }
+        ≡ slice_index_or (shown_by j follower.now) index false }
 {
     for index in 0..words.len() {
         words[index] = follower.word(index);

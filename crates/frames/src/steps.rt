@@ -1,118 +1,171 @@
-ghost use Rattle.std.specs.Prelude.{◌≡◌, ◌<◌, ◌≤◌, ◌+◌, ℕ, true, false, None, is_some, IsTrue, if◌then◌else◌, length, option_map, slice_index_or};
+//! How the frames of 64 runs go over one step of a program: a function for each kind of step.
+ghost use Rattle.std.specs.Prelude.{◌≡◌, ◌<◌, ◌≤◌, ◌+◌, ℕ, Bool, true, false, None, List, is_some, if◌then◌else◌, length, option_map, slice_index_or};
 ghost use Rattle.bit_rows.specs.Lanes.{lane, lane_bit};
 ghost use Rattle.pauli_word.specs.Parity.{exclusive_or};
 ghost use Rattle.pauli_word.specs.Words.{lone_letter};
 ghost use Rattle.circuit_walk.specs.Letters.{AreSmall, letters_in};
 ghost use Rattle.circuit_walk.specs.Steps.{listed, number_of};
 ghost use Rattle.circuit_walk.specs.Named.{IsStepOf};
-ghost use Rattle.step_model.specs.Listing.{word_of_terms, step_records};
+ghost use Rattle.circuit_walk.specs.declared.step.Step.TheVariants.{Collapse, CollapseWord, Fault, Feedback, One, Two};
+ghost use Rattle.step_model.specs.Listing.{word_of_terms};
 ghost use Rattle.step_model.specs.Runs.{flip_happens};
 ghost use Rattle.step_model.specs.WellFormed.{TermsFit};
-ghost use Rattle.frames.specs.private.Followed.{AreStill, ChangesNothing, TurnsAt, Turns, flips_in, followed, reset_in, terms_of, terms_or_none, turned_in, turned_where};
+ghost use Rattle.frames.specs.private.Followed.{AreStill, Turns, flips_in, followed, reset_in, terms_of, terms_or_none, turned_in, turned_where};
 ghost use Rattle.frames.specs.LaneFrames.{GoesTo};
 
 use crate::frames::Frames;
 use bit_rows::lanes::xor;
-use circuit_walk::{FaultName, Letters, Program, Step};
+use circuit_walk::{FaultName, Letters, Program};
 use forward_sim::ReplacedWord;
+use gate_table::Gate;
 use pauli_word::Letter;
 use std::alloc::Allocator;
 
-/// Takes the frames of 64 runs over a step of a program. Lane j of `faults` says which faults happen in run j. At a
-/// collapse, `coins` has a coin for each run, and `replaced` is what the reference run keeps of the collapse.
+/// A gate of one qubit. Where `still` all frames are I, and stay so.
 #[inline(always)]
-pub(crate) fn take_step<A: Allocator + Copy>(
+pub(crate) fn move_one<A: Allocator + Copy>(
+    frames: &mut Frames<A>,
+    program: &Program<'_, A>,
+    still: bool,
+    gate: Gate,
+    q: u32,
+)
+    requires of_program { IsStepOf program.now (One gate q) }
+    requires qubits { length frames.old.letters ≡ program.now.listing.qubits }
+    requires still { still ≡ true → AreStill frames.old }
+    ensures goes { (faults : List ℕ)
+        → GoesTo frames.old frames.new (λ j v. followed program.now.listing (lane j faults) None
+        (lane_bit j 0) (listed program.now.listing.qubits (One gate q)) v) }
+    ensures still { still ≡ true → AreStill frames.new }
+{
+    if !still {
+        frames.move_one(gate, q as usize);
+    }
+}
+
+/// A gate of two qubits. Where `still` all frames are I, and stay so.
+#[inline(always)]
+pub(crate) fn move_two<A: Allocator + Copy>(
+    frames: &mut Frames<A>,
+    program: &Program<'_, A>,
+    still: bool,
+    gate: Gate,
+    a: u32,
+    b: u32,
+)
+    requires of_program { IsStepOf program.now (Two gate a b) }
+    requires qubits { length frames.old.letters ≡ program.now.listing.qubits }
+    requires still { still ≡ true → AreStill frames.old }
+    ensures goes { (faults : List ℕ)
+        → GoesTo frames.old frames.new (λ j v. followed program.now.listing (lane j faults) None
+        (lane_bit j 0) (listed program.now.listing.qubits (Two gate a b)) v) }
+    ensures still { still ≡ true → AreStill frames.new }
+{
+    if !still {
+        frames.move_two(gate, a as usize, b as usize);
+    }
+}
+
+/// A letter where an earlier record is 1.
+#[inline(always)]
+pub(crate) fn feed_back<A: Allocator + Copy>(
+    frames: &mut Frames<A>,
+    program: &Program<'_, A>,
+    letter: Letter,
+    q: u32,
+    rec: u32,
+)
+    requires of_program { IsStepOf program.now (Feedback letter q rec) }
+    requires qubits { length frames.old.letters ≡ program.now.listing.qubits }
+    ensures { (faults : List ℕ)
+        → GoesTo frames.old frames.new (λ j v. followed program.now.listing (lane j faults) None
+        (lane_bit j 0) (listed program.now.listing.qubits (Feedback letter q rec)) v) }
+{
+    let runs = frames.flips(rec as usize);
+    frames.times(letter, q as usize, runs);
+}
+
+/// A fault. Lane j of `faults` says which faults happen in run j: most happen in none. Where `still` all frames are I, and it
+/// answers whether they are known to be I then.
+#[inline(always)]
+pub(crate) fn apply_fault<A: Allocator + Copy>(
+    frames: &mut Frames<A>,
+    program: &Program<'_, A>,
+    faults: &[u64],
+    still: bool,
+    name: FaultName,
+    letters: Letters<'_>,
+) -> bool
+    requires of_program { IsStepOf program.now (Fault name letters) }
+    requires qubits { length frames.old.letters ≡ program.now.listing.qubits }
+    requires still { still ≡ true → AreStill frames.old }
+    ensures goes { GoesTo frames.old frames.new (λ j v. followed program.now.listing
+        (lane j faults.now) None (lane_bit j 0)
+        (listed program.now.listing.qubits (Fault name letters.entry)) v) }
+    ensures still { result ≡ true → AreStill frames.new }
+{
+    let runs = word_at(faults, name.number as usize);
+    if runs == 0 {
+        return still;
+    }
+    frames.times_letters(letters, runs);
+    false
+}
+
+/// A collapse of a letter at a qubit, which is then reset where `reset`. `coins` has a coin for each run, and `replaced` is what
+/// the reference run keeps of the collapse.
+#[inline(always)]
+pub(crate) fn collapse<A: Allocator + Copy>(
     frames: &mut Frames<A>,
     program: &Program<'_, A>,
     faults: &[u64],
     replaced: Option<ReplacedWord<'_>>,
     coins: u64,
-    step: Step<'_>,
+    letter: Letter,
+    qubit: u32,
+    rec: Option<u32>,
+    reset: bool,
+    flip: Option<FaultName>,
 )
-    requires of_program { IsStepOf program.now step }
+    requires inside { qubit < program.now.listing.qubits }
     requires qubits { length frames.old.letters ≡ program.now.listing.qubits }
-    requires room { length frames.old.flips + length
-        (step_records (listed program.now.listing.qubits step))
-        ≤ frames.old.room }
-    requires turns { TurnsAt program.now.listing.qubits (terms_of replaced)
-        (listed program.now.listing.qubits step) }
-    ensures { GoesTo frames.old frames.new (λ j v. followed program.now.listing (lane j faults.now)
+    requires room { length frames.old.flips + (if is_some rec then 1 else 0) ≤ frames.old.room }
+    requires turns { Turns program.now.listing.qubits (terms_of replaced)
+        (lone_letter program.now.listing.qubits qubit letter) }
+    ensures { (inverted : Bool)
+        → GoesTo frames.old frames.new (λ j v. followed program.now.listing (lane j faults.now)
         (terms_of replaced.entry) (lane_bit j coins)
-        (listed program.now.listing.qubits step.entry) v) }
+        (listed program.now.listing.qubits (Collapse letter qubit rec reset inverted flip)) v) }
 {
-    program.well_formed();
-    match step {
-        Step::One { gate, q } => frames.move_one(gate, q as usize),
-        Step::Two { gate, a, b } => frames.move_two(gate, a as usize, b as usize),
-        Step::Collapse {
-            letter,
-            qubit,
-            rec,
-            reset,
-            flip,
-            ..
-        } => {
-            let flips = collapse_letter(frames, replaced, coins, letter, qubit as usize, reset);
-            frames.record(rec, xor(flips, flips_of(faults, flip)));
-        }
-        Step::CollapseWord {
-            letters,
-            rec,
-            flip,
-            ..
-        } => {
-            let flips = collapse_product(frames, replaced, coins, letters);
-            frames.record(rec, xor(flips, flips_of(faults, flip)));
-        }
-        Step::Fault { name, letters } => {
-            frames.times_letters(letters, word_at(faults, name.number as usize));
-        }
-        Step::Feedback { letter, q, rec } => {
-            let runs = frames.flips(rec as usize);
-            frames.times(letter, q as usize, runs);
-        }
-    }
+    let flips = collapse_letter(frames, replaced, coins, letter, qubit as usize, reset);
+    frames.record(rec, xor(flips, flips_of(faults, flip)));
 }
 
-/// Takes the frames over a step, with no reference run beside it. Where `still` all of them are I, and it answers whether they
-/// are known to be I then.
+/// A collapse of a product.
 #[inline(always)]
-pub(crate) fn carry_over<A: Allocator + Copy>(
+pub(crate) fn collapse_word<A: Allocator + Copy>(
     frames: &mut Frames<A>,
     program: &Program<'_, A>,
     faults: &[u64],
-    still: bool,
-    step: Step<'_>,
-) -> bool
-    requires of_program { IsStepOf program.now step }
+    replaced: Option<ReplacedWord<'_>>,
+    coins: u64,
+    letters: Letters<'_>,
+    rec: Option<u32>,
+    flip: Option<FaultName>,
+)
+    requires small { AreSmall letters }
+    requires inside { TermsFit program.now.listing.qubits (letters_in letters) }
     requires qubits { length frames.old.letters ≡ program.now.listing.qubits }
-    requires room { length frames.old.flips + length
-        (step_records (listed program.now.listing.qubits step))
-        ≤ frames.old.room }
-    requires still { still ≡ true → AreStill frames.old }
-    ensures goes { GoesTo frames.old frames.new (λ j v. followed program.now.listing
-        (lane j faults.now) None (lane_bit j 0)
-        (listed program.now.listing.qubits step.entry) v) }
-    ensures still { result ≡ true → AreStill frames.new }
+    requires room { length frames.old.flips + (if is_some rec then 1 else 0) ≤ frames.old.room }
+    requires turns { Turns program.now.listing.qubits (terms_of replaced)
+        (word_of_terms program.now.listing.qubits (letters_in letters)) }
+    ensures { (inverted : Bool)
+        → GoesTo frames.old frames.new (λ j v. followed program.now.listing (lane j faults.now)
+        (terms_of replaced.entry) (lane_bit j coins)
+        (listed program.now.listing.qubits (CollapseWord letters.entry rec inverted flip)) v) }
 {
-    if is_quiet(faults, still, step) {
-        return still;
-    }
-    take_step(frames, program, faults, None, 0, step);
-    false
-}
-
-/// Whether a step that is no collapse leaves all frames as they are: a fault that happens in none of the runs, as most
-/// do, or a gate where `still`, which says that all frames are I.
-#[inline(always)]
-pub(crate) fn is_quiet(faults: &[u64], still: bool, step: Step<'_>) -> bool
-    ensures { IsTrue result → ChangesNothing faults.now still step.entry }
-{
-    match step {
-        Step::One { .. } | Step::Two { .. } => still,
-        Step::Fault { name, .. } => word_at(faults, name.number as usize) == 0,
-        _ => false,
-    }
+    let flips = collapse_product(frames, replaced, coins, letters);
+    frames.record(rec, xor(flips, flips_of(faults, flip)));
 }
 
 // A collapse of a letter at a qubit, which is then reset where `reset`. Answers the flips.

@@ -86,7 +86,7 @@ toggled_apart m r rows old targets xs toggled within is parities =
         ∙ sym (toggled_each_at targets k (row_of_set m xs) (omega (arith, low, length-row_of_set m xs))))))
 
 -- ---- two lists merged, where equal targets cancel
-listed_both : (xs ys : List ℕ) (t : ℕ) → is_listed (xs ++ ys) t ≡ exclusive_or (is_listed xs t) (is_listed ys t)
+pub listed_both : (xs ys : List ℕ) (t : ℕ) → is_listed (xs ++ ys) t ≡ exclusive_or (is_listed xs t) (is_listed ys t)
 listed_both [] ys t = refl
 listed_both (x ∷ xs) ys t = ap (exclusive_or (x == t)) (listed_both xs ys t) ∙ sym (exclusive_or_assoc (x == t) (is_listed xs t) (is_listed ys t))
 

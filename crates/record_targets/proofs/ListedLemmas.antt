@@ -1,14 +1,12 @@
 -- The targets that list each record, put into one list of numbers.
 use Rattle.std.proofs.Common.{◌≡◌, ◌≢◌, ℕ, zero, suc, ◌+◌, ◌-◌, ◌<◌, ◌≤◌, ◌^◌, Bool, false, List, [], ◌∷◌, ◌++◌, length, drop, take, get_or, set, inl, inr, refl, ap, ap₂, subst, sym, ◌∙◌, arith, length-set, get_or-set_same, get_or-set_other}
-use Rattle.std.specs.Prelude.{All, cond, map, replicate, slice_range}
+use Rattle.std.specs.Prelude.{cond, map, replicate, slice_range}
 use Rattle.std.specs.List.{concat, range_with_len}
 use Rattle.std.proofs.lemmas.Bool.{cases_eq, cases_lt, eq-eqb, ne_eqb}
 use Rattle.std.proofs.lemmas.List.{drop_all, drop_more, drop-set-lt, drop-set-add, get_or-map, get_or-replicate, length-drop, length-map, length-replicate, take-set-le, take_more_set}
-use Rattle.std.proofs.lemmas.List.Elements.{All-append}
 use Rattle.std.proofs.lemmas.List.FromFn.{fill_by_all, length-map-range_with_len, get_or-map-range_with_len}
 use Rattle.step_model.specs.Listing.{Listing}
 use Rattle.step_model.specs.Targets.{is_listed, target_at, targets_of}
-use Rattle.step_model.specs.WellFormed.{IsWellFormed}
 use Rattle.flat_lists.specs.Cuts.{AreEnds, cut}
 use Rattle.flat_lists.proofs.CutLemmas.{get_or-cut, length-cut, rising_ends}
 use Rattle.record_targets.specs.private.ListedTargets.{ArePut, HasRoom, left_from, listing_below, marked_rows, start_of, times_in}
@@ -55,15 +53,6 @@ counted counts left rec r there lt =
 -- what a target lists, and what is left behind it
 pub left_from-more : (program : Listing) (t : ℕ) → t < length (targets_of program) → left_from program t ≡ target_at program t ++ left_from program (t + 1)
 left_from-more program t there = ap concat (drop_more (targets_of program) t [] there)
-
--- what is read of a target, whose records are the program's
-pub target_read : (program : Listing) (lists : List (List ℕ)) (t : ℕ) (named : List ℕ) → named ≡ get_or lists t [] → lists ≡ targets_of program → named ≡ target_at program t
-target_read program lists t named is all = is ∙ ap (λ (l : List (List ℕ)). get_or l t []) all
-
-pub target_fits : (program : Listing) (t : ℕ) (named : List ℕ) → IsWellFormed program → t < length (targets_of program) → named ≡ target_at program t → All (λ r. r < program.records) named
-target_fits program t named fits there is =
-    subst (All (λ r. r < program.records)) (sym is)
-    (All-append (All (λ r. r < program.records)) program.detectors program.observables fits.detectors_fit fits.observables_fit t [] there)
 
 pub left_from-all : (program : Listing) → left_from program (length (targets_of program)) ≡ []
 left_from-all program = ap concat (drop_all (length (targets_of program)) (targets_of program) (omega arith))
@@ -189,7 +178,7 @@ some_target [] r some = absurd (omega (arith, some, no_start r))
 some_target (x ∷ ts) r some = omega arith
 
 pub none_put : (program : Listing) (marks numbers : List ℕ) → length marks ≡ program.records → ((r : ℕ) → r < length marks → get_or marks r 0 ≡ start_of (left_from program 0) r)
-    → numbers ≡ replicate (start_of (left_from program 0) (length marks)) 0 → length numbers < 2 ^ 32 → ArePut program 0 marks numbers
+    → numbers ≡ replicate (start_of (left_from program 0) (length marks)) 0 → length numbers < 2 ^ 64 → ArePut program 0 marks numbers
 none_put program marks numbers count starts blank few =
     record {
       room =

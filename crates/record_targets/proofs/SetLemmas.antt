@@ -50,7 +50,7 @@ length-toggled_in_each t [] sets = refl
 length-toggled_in_each t (r ∷ named) sets = length-toggled_in_each t named (toggled_in t r sets) ∙ length-set sets r (toggled t (get_or sets r []))
 
 -- at a record the target is toggled as often as the record is listed
-toggled_in_at : (t s : ℕ) (named : List ℕ) (sets : List (List Bool)) (d : ℕ) → s < length sets → d < length (get_or sets s [])
+pub toggled_in_at : (t s : ℕ) (named : List ℕ) (sets : List (List Bool)) (d : ℕ) → s < length sets → d < length (get_or sets s [])
     → get_or (get_or (toggled_in_each t named sets) s []) d false ≡ exclusive_or ((t == d) && is_listed named s) (get_or (get_or sets s []) d false)
 toggled_in_at t s [] sets d hs hd = ap (λ b. exclusive_or b (get_or (get_or sets s []) d false)) (none (t == d))
   where
@@ -86,7 +86,7 @@ toggled_in_at t s (r ∷ named) sets d hs hd =
     both true true true true h = refl
 
 -- rows with the same bits at each place
-rows_same : (program : Listing) (sets : List (List Bool)) (f : ℕ → ℕ → Bool) → length sets ≡ program.records → ((r : ℕ) → r < program.records → length (get_or sets r []) ≡ length (targets_of program))
+pub rows_same : (program : Listing) (sets : List (List Bool)) (f : ℕ → ℕ → Bool) → length sets ≡ program.records → ((r : ℕ) → r < program.records → length (get_or sets r []) ≡ length (targets_of program))
     → ((r d : ℕ) → r < program.records → d < length (targets_of program) → get_or (get_or sets r []) d false ≡ f r d)
     → sets ≡ map (λ r. map (f r) (range_with_len 0 (length (targets_of program)))) (range_with_len 0 program.records)
 rows_same program sets f size long same =
@@ -94,7 +94,7 @@ rows_same program sets f size long same =
     (λ r lt. fill_by_all (f r) (get_or sets r []) (target_count program) false (long r lt) (λ d below. same r d lt below))
 
 -- a row keeps its length
-toggled_in_long : (t : ℕ) (named : List ℕ) (sets : List (List Bool)) (m s : ℕ) → s < length sets → ((r : ℕ) → r < length sets → length (get_or sets r []) ≡ m) → length (get_or (toggled_in_each t named sets) s []) ≡ m
+pub toggled_in_long : (t : ℕ) (named : List ℕ) (sets : List (List Bool)) (m s : ℕ) → s < length sets → ((r : ℕ) → r < length sets → length (get_or sets r []) ≡ m) → length (get_or (toggled_in_each t named sets) s []) ≡ m
 toggled_in_long t [] sets m s h long = long s h
 toggled_in_long t (r ∷ named) sets m s h long =
     toggled_in_long t named (toggled_in t r sets) m s (omega (arith, h, size))

@@ -3,7 +3,9 @@
 
 mod ascending;
 mod changing_lists;
+mod counting;
 mod listed_targets;
+mod putting;
 mod record_lists;
 mod targets;
 

@@ -4,7 +4,7 @@ use Rattle.std.specs.Prelude.{◌≡◌, ◌<◌, ◌++◌, ◌^◌, ◌-◌, �
 use Rattle.step_model.specs.Listing.{Listing}
 use Rattle.forward_sim.specs.Drawn.{bounds_of}
 use Rattle.forward_sim.specs.declared.runs.BoundRun.{BoundRun}
-use Rattle.forward_sim.specs.private.BoundRuns.{bounds_above, bounds_in, bounds_of_run}
+use Rattle.forward_sim.specs.private.BoundRuns.{bounds_in, bounds_of_run}
 
 -- these are the bounds of the first n faults
 abbrev pub AreBounds : Listing → ℕ → List ℕ → Type 0

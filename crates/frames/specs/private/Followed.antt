@@ -4,14 +4,13 @@
 -- that anticommutes with the word measured; that leaves the run's state the same. (Pauli frames: Knill, Nature 434, 39
 -- (2005); with a reference sample, as in Stim's frame simulator: Gidney, Quantum 5, 497 (2021).)
 use Rattle.std.specs.Prelude.{⊤, ◌≡◌, ℕ, Bool, true, List, [], length, Option, None, Some, option_map}
-use Rattle.bit_rows.specs.Lanes.{lane, lane_bit}
+use Rattle.bit_rows.specs.Lanes.{lane_bit}
 use Rattle.forward_sim.specs.References.{terms_in}
 use Rattle.forward_sim.specs.declared.replaced_word.ReplacedWord.{ReplacedWord}
 use Rattle.pauli_word.specs.declared.letter.Letter.{Letter}
 use Rattle.pauli_word.specs.Parity.{exclusive_or}
 use Rattle.pauli_word.specs.Words.{anticommute, lone_letter, no_letters}
-use Rattle.circuit_walk.specs.Steps.{listed, measured}
-use Rattle.circuit_walk.specs.declared.step.Step.{Step}
+use Rattle.circuit_walk.specs.Steps.{measured}
 use Rattle.step_model.specs.declared.step.Term.{Term}
 use Rattle.step_model.specs.Frames.{Frame}
 use Rattle.step_model.specs.Listing.{Listing, ListedStep, One, Two, Collapse, Fault, Feedback, word_of_terms, measured_word}
@@ -50,13 +49,6 @@ IsStill v = v.word ≡ no_letters (length v.word)
 -- all frames are such
 abbrev pub AreStill : LaneFrames → Type 0
 AreStill f = (j : ℕ) → IsStill (frame_in j f)
-
--- a step that changes no frame of these runs, or, where `still`, none that is I, where the step is no collapse
-abbrev pub ChangesNothing : List ℕ → Bool → Step → Type 0
-ChangesNothing faults still step =
-    (program : Listing) (j : ℕ) (coin : Bool) (v : Frame)
-    → (still ≡ true → IsStill v)
-    → followed program (lane j faults) None coin (listed program.qubits step) v ≡ v
 
 -- the letters at qubits of a word that is kept of a collapse, if any
 abbrev pub terms_of : Option ReplacedWord → Option (List Term)

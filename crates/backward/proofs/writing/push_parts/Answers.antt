@@ -31,9 +31,6 @@ write_segments-requires-clause-ready g c =
 pub returns-in_err-random : goal.returns-in_err-random
 returns-in_err-random g c = failed_answer (err_from_is_err_and c.from_residual.result c.from_residual.ensures.1).1 (inl (refl, refl))
 
-pub returns-in_err-coordinates-in-None : goal.returns-in_err-coordinates-in-None
-returns-in_err-coordinates-in-None g c = failed_answer (err_from_is_err_and c.from_residual-in_err-coordinates-in-None.result c.from_residual-in_err-coordinates-in-None.ensures.1).1 (inl (refl, refl))
-
 pub returns-in-Some : goal.returns-in-Some
 returns-in-Some g c =
     record {

@@ -20,16 +20,22 @@ steps_at-requires g c =
     let e = c.in-Some.ensures in
     next_fits c.args.program.now c.text-text.result c.loop-i.cursor c.face.new.self c.loop-i.counts c.loop-i.steps c.in-Some.i c.loop-i.invariant.passing e.place e.same e.next
 
-pub take_instruction-requires-clause-course : goal.take_instruction-requires-clause-course
-take_instruction-requires-clause-course g c =
+pub take_instruction-requires : goal.take_instruction-requires
+take_instruction-requires g c =
     let e = c.in-Some.ensures in
-    enters c.args.program.now c.text-text.result c.loop-i.cursor c.face.new.self c.loop-i.counts c.loop-i.steps c.in-Some.i c.loop-i.invariant.passing e.place e.same e.next
-    c.steps_at.result e.here c.steps_at.ensures.steps c.steps_at.ensures.at c.steps_at.ensures.chance
+    record {
+      place = record {
+        course =
+            enters c.args.program.now c.text-text.result c.loop-i.cursor c.face.new.self c.loop-i.counts c.loop-i.steps c.in-Some.i c.loop-i.invariant.passing e.place e.same e.next
+            c.steps_at.result e.here c.steps_at.ensures.steps c.steps_at.ensures.at c.steps_at.ensures.chance;
+        stands = (c.args.taker.now, c.loop-i.invariant.stands);
+      };
+    }
 
 pub loop-i-smaller : goal.loop-i-smaller
 loop-i-smaller g c =
     let e = c.in-Some.ensures in
-    let fewer = fewer_left c.args.program.now c.text-text.result c.face.new.self c.pass.new.self c.take_instruction.new.inside c.take_instruction.ensures.course c.take_instruction.ensures.done
+    let fewer = fewer_left c.args.program.now c.text-text.result c.face.new.self c.pass.new.self c.take_instruction.new.inside c.take_instruction.ensures.gone.course c.take_instruction.ensures.done
     c.pass.ensures.place c.pass.ensures.over in
     omega (arith, fewer, ap length e.same.left)
 
@@ -37,9 +43,9 @@ pub loop-i-preserved : goal.loop-i-preserved
 loop-i-preserved g c =
     record {
       passing =
-          leaves c.args.program.now c.text-text.result c.face.new.self c.pass.new.self c.take_instruction.new.inside c.take_instruction.ensures.course c.take_instruction.ensures.done
+          leaves c.args.program.now c.text-text.result c.face.new.self c.pass.new.self c.take_instruction.new.inside c.take_instruction.ensures.gone.course c.take_instruction.ensures.done
           c.pass.ensures.place c.pass.ensures.over;
-      stands = c.take_instruction.ensures.stands c.args.taker.now c.loop-i.invariant.stands;
+      stands = c.take_instruction.ensures.gone.stands c.args.taker.now c.loop-i.invariant.stands;
     }
 
 pub returns : goal.returns
@@ -47,6 +53,3 @@ returns g c =
     let e = c.in_default.ensures in
     let end = ends_passing c.args.program.now c.text-text.result c.loop-i.cursor c.face.new.self c.loop-i.counts c.loop-i.steps c.loop-i.invariant.passing e.place e.same e.next in
     subst (λ k. g.T.StepTaker.stands c.args.program.now c.args.taker.now k c.loop-i.taker) end c.loop-i.invariant.stands
-
-pub take_instruction-requires-clause-stands : goal.take_instruction-requires-clause-stands
-take_instruction-requires-clause-stands g c = (c.args.taker.now, c.loop-i.invariant.stands)

@@ -1,10 +1,16 @@
-use Rattle.std.proofs.Common.{List, ℤ, All, ◌+◌, ◌<◌, ◌^◌, length, subst, sym, ap, ◌∙◌, arith}
+use Rattle.std.proofs.Common.{◌≡◌, List, ℤ, All, ◌+◌, ◌<◌, ◌++◌, ◌^◌, drop, length, take, subst, sym, ap, ◌∙◌, arith}
 use Rattle.std.specs.Prelude.{nat_abs}
-use Rattle.flat_lists.proofs.TurnLemmas.{refill-whole}
+use Rattle.std.specs.List.{refill}
+use Rattle.std.proofs.Math.Seq.{take-append_seam}
 use Rattle.stim_parser.specs.Offsets.{shifted}
 use Rattle.dem_text.specs.private.Offsets.{beyond_stated}
 use Rattle.dem_text.proofs.ShiftLemmas.{long-padded, room-padded, shifted-padded}
 use Rattle.dem_text.proofs.standing.add_stated.Goals as goal
+
+-- all of a list is written over
+refill-whole : (xs ws : List ℤ) → length ws ≡ length xs → refill (length xs) xs ws ≡ ws
+refill-whole xs ws h =
+    ap (λ n. take n (ws ++ drop (length ws) xs)) (sym h) ∙ take-append_seam ws (drop (length ws) xs)
 
 pub add_all-requires : goal.add_all-requires
 add_all-requires c =

@@ -1,8 +1,8 @@
 -- At the start all steps are left; behind all of them the records are those of the run, and what is kept is its entries.
-use Rattle.std.proofs.Common.{◌≡◌, ◌≤◌, List, [], length, drop, ap, ◌∙◌, subst, arith}
+use Rattle.std.proofs.Common.{◌≡◌, List, [], length, drop, ap, ◌∙◌, arith}
 use Rattle.std.proofs.lemmas.List.{drop_all}
 use Rattle.step_model.specs.Frames.{zero_coins}
-use Rattle.step_model.specs.Listing.{Listing, ListedStep}
+use Rattle.step_model.specs.Listing.{ListedStep}
 use Rattle.step_model.specs.Runs.{records_of}
 use Rattle.forward_sim.specs.References.{walking_qubits, walking_run}
 use Rattle.forward_sim.proofs.ReferenceSteps.{entries_at_end, keeps_at_start, reference_records}

@@ -6,11 +6,15 @@ use Rattle.forward_sim.specs.private.Machines.{ComesTo, qubit_count, run_of}
 use Rattle.forward_sim.proofs.StepLetters.{fault_lent, fault_taken, product_lent}
 use Rattle.forward_sim.proofs.steps.take_step.Goals as goal
 
-pub measure_product-seen-requires : goal.measure_product-seen-requires
-measure_product-seen-requires g c =
+pub collapse_word-requires-clause-small : goal.collapse_word-requires-clause-small
+collapse_word-requires-clause-small g c =
     let s = c.in-CollapseWord in
-    let lent = product_lent c.args.program.now c.args.step (qubit_count c.args.machine.now) c.requires.of_program c.requires.qubits s.letters s.rec s.inverted s.flip s.is in
-    record { small = lent.small; fit = lent.fit }
+    (product_lent c.args.program.now c.args.step (qubit_count c.args.machine.now) c.requires.of_program c.requires.qubits s.letters s.rec s.inverted s.flip s.is).small
+
+pub collapse_word-requires-clause-fit : goal.collapse_word-requires-clause-fit
+collapse_word-requires-clause-fit g c =
+    let s = c.in-CollapseWord in
+    (product_lent c.args.program.now c.args.step (qubit_count c.args.machine.now) c.requires.of_program c.requires.qubits s.letters s.rec s.inverted s.flip s.is).fit
 
 pub take_fault-requires : goal.take_fault-requires
 take_fault-requires g c =

@@ -6,7 +6,7 @@ use Rattle.frames.proofs.ShownLemmas.{filled_more}
 use Rattle.frames.proofs.side_runs.fill.Goals as goal
 
 pub loop-index-init : goal.loop-index-init
-loop-index-init g c = record { size = refl; filled = λ program follows i below. absurd (omega arith) }
+loop-index-init g c = record { size = refl; filled = λ i below. absurd (omega arith) }
 
 pub word-requires : goal.word-requires
 word-requires g c = omega (arith, c.loop-index.invariant.size, c.requires)
@@ -15,14 +15,14 @@ pub loop-index-preserved : goal.loop-index-preserved
 loop-index-preserved g c =
     record {
       size = length-set _ _ _ ∙ c.loop-index.invariant.size;
-      filled = λ program follows.
-          filled_more (λ i w. (j : ℕ) → j < 64 → lane_bit j w ≡ get_or (shown_by program j c.args.follower.now) i false) c.loop-index.words c.loop-index.index c.word.result
-          (omega (arith, c.loop-index.invariant.size)) (c.loop-index.invariant.filled program follows) (c.word.ensures program follows);
+      filled =
+          filled_more (λ i w. (j : ℕ) → j < 64 → lane_bit j w ≡ get_or (shown_by j c.args.follower.now) i false) c.loop-index.words c.loop-index.index c.word.result
+          (omega (arith, c.loop-index.invariant.size)) c.loop-index.invariant.filled c.word.ensures;
     }
 
 pub returns : goal.returns
 returns g c =
     record {
       size = c.loop-index.invariant.size;
-      filled = λ program follows i below. c.loop-index.invariant.filled program follows i (omega (arith, below));
+      filled = λ i below. c.loop-index.invariant.filled i (omega (arith, below));
     }

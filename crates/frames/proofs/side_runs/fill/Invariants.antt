@@ -1,7 +1,6 @@
 use Rattle.std.proofs.Common.{◌≡◌, ℕ, ◌<◌, false, length, get_or}
 use Rattle.bit_rows.specs.Lanes.{lane_bit}
-use Rattle.step_model.specs.Listing.{Listing}
-use Rattle.frames.specs.private.Followers.{Follows, shown_by}
+use Rattle.frames.specs.private.Followers.{shown_by}
 use Rattle.frames.proofs.side_runs.fill.Given as goal
 
 -- the words so far are filled
@@ -9,5 +8,5 @@ abbrev pub invariant-loop-index : goal.invariant-loop-index
 invariant-loop-index g l =
     record {
       size : length l.words ≡ length l.fn.words;
-      filled : (program : Listing) → Follows program l.follower → (i : ℕ) → i < l.index → (j : ℕ) → j < 64 → lane_bit j (get_or l.words i 0) ≡ get_or (shown_by program j l.follower) i false;
+      filled : (i : ℕ) → i < l.index → (j : ℕ) → j < 64 → lane_bit j (get_or l.words i 0) ≡ get_or (shown_by j l.follower) i false;
     }

@@ -1,8 +1,15 @@
 //! Takers of the steps and of the faults of small circuits, against lists that were written out by hand.
 
+ghost use Rattle.circuit_walk.specs.Named.{IsStepOf};
+ghost use Rattle.circuit_walk.specs.Programs.{KeptProgram};
+
 use crate::tests::calls::step_words::{digit, is_found, is_kind, is_step, names_fault};
 use crate::tests::tables::parts_of;
-use circuit_walk::{FaultTaker, FoundFault, Program, Step, StepTaker, take_all, take_faults};
+use circuit_walk::{
+    FaultName, FaultTaker, FoundFault, Letters, Program, Step, StepTaker, take_all, take_faults,
+};
+use gate_table::Gate;
+use pauli_word::Letter;
 use std::alloc::Global;
 use std::str::SplitWhitespace;
 use step_model::Fault;
@@ -18,16 +25,73 @@ struct Comparing<'w> {
     same: bool,
 }
 
+impl<'w> Comparing<'w> {
+    /// Takes the next word. It is to be that of this step.
+    fn compare(&mut self, step: Step<'_>)
+        requires { (program : KeptProgram) × IsStepOf program step }
+    {
+        self.same &= match self.words.next() {
+            Some(word) => is_step(step, word.as_bytes()),
+            None => false,
+        };
+    }
+}
+
 impl<'w> StepTaker<Global> for Comparing<'w> {
     ghost use Rattle.std.specs.Prelude.{⊤};
 
     ghost stands = { λ program begun k comparing. ⊤ };
 
-    fn take(&mut self, _program: &Program<'_, Global>, step: Step<'_>) {
-        self.same &= match self.words.next() {
-            Some(word) => is_step(step, word.as_bytes()),
-            None => false,
-        };
+    fn apply_one(&mut self, _program: &Program<'_, Global>, gate: Gate, q: u32) {
+        self.compare(Step::One { gate, q });
+    }
+
+    fn apply_two(&mut self, _program: &Program<'_, Global>, gate: Gate, a: u32, b: u32) {
+        self.compare(Step::Two { gate, a, b });
+    }
+
+    fn feed_back(&mut self, _program: &Program<'_, Global>, letter: Letter, q: u32, rec: u32) {
+        self.compare(Step::Feedback { letter, q, rec });
+    }
+
+    fn collapse(
+        &mut self,
+        _program: &Program<'_, Global>,
+        letter: Letter,
+        qubit: u32,
+        rec: Option<u32>,
+        reset: bool,
+        inverted: bool,
+        flip: Option<FaultName>,
+    ) {
+        self.compare(Step::Collapse {
+            letter,
+            qubit,
+            rec,
+            reset,
+            inverted,
+            flip,
+        });
+    }
+
+    fn collapse_word(
+        &mut self,
+        _program: &Program<'_, Global>,
+        letters: Letters<'_>,
+        rec: Option<u32>,
+        inverted: bool,
+        flip: Option<FaultName>,
+    ) {
+        self.compare(Step::CollapseWord {
+            letters,
+            rec,
+            inverted,
+            flip,
+        });
+    }
+
+    fn fault(&mut self, _program: &Program<'_, Global>, name: FaultName, letters: Letters<'_>) {
+        self.compare(Step::Fault { name, letters });
     }
 
     fn pass_faults(&mut self, _program: &Program<'_, Global>, first: u32, count: usize) -> usize {

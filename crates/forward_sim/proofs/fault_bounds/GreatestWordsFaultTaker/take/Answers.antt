@@ -1,5 +1,5 @@
 -- The word is pushed whose next number is the bound.
-use Rattle.std.proofs.Common.{◌≡◌, ◌+◌, ◌∷◌, [], ◌++◌, sym, ap, ◌∙◌}
+use Rattle.std.proofs.Common.{◌+◌, ◌∷◌, [], ◌++◌, sym, ap, ◌∙◌}
 use Rattle.std.proofs.lemmas.List.{map-append}
 use Rattle.forward_sim.specs.private.BoundRuns.{bounds_above}
 use Rattle.forward_sim.proofs.BoundLemmas.{bounds_more}

@@ -1,5 +1,5 @@
 -- Faults that don't happen leave the run as it is.
-use Rattle.std.proofs.Common.{subst, ◌+◌, ℕ, arith}
+use Rattle.std.proofs.Common.{subst, ◌+◌, arith}
 use Rattle.std.specs.Prelude.{Bool, List}
 use Rattle.forward_sim.specs.private.Machines.{qubit_count, run_of}
 use Rattle.forward_sim.specs.private.Quiet.{NoneHappens}

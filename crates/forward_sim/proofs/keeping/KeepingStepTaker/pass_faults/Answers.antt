@@ -1,5 +1,5 @@
 -- No fault happens, so all leave the run as it is.
-use Rattle.std.proofs.Common.{◌≡◌, [], refl}
+use Rattle.std.proofs.Common.{[], refl}
 use Rattle.forward_sim.specs.References.{walking_qubits, walking_run}
 use Rattle.forward_sim.proofs.RunLoops.{along_quiet, keeps_quiet}
 use Rattle.forward_sim.proofs.keeping.KeepingStepTaker.pass_faults.Goals as goal

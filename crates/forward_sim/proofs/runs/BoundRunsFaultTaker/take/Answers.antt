@@ -1,5 +1,5 @@
 -- The bound goes on with the last run, or begins one.
-use Rattle.std.proofs.Common.{◌≡◌, ◌++◌, ◌∙◌, arith}
+use Rattle.std.proofs.Common.{◌++◌, ◌∙◌, arith}
 use Rattle.forward_sim.specs.Drawn.{bounds_of}
 use Rattle.forward_sim.specs.private.BoundRuns.{bounds_in, bounds_of_run}
 use Rattle.forward_sim.proofs.BoundLemmas.{bounds_more}

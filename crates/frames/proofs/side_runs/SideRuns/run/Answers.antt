@@ -36,6 +36,6 @@ returns-clause-lanes g c j below =
     c.fill.ensures.size ∙ (c.self.invariant.1 ∙ sym (length-shown shown program faults coins c.well_formed-2.ensures)) in
     lane_shows j words (shown_of shown program faults coins) size
     (λ i within.
-    c.fill.ensures.filled program c.follow.ensures.follows i (omega (arith, within, c.fill.ensures.size)) j below
+    c.fill.ensures.filled i (omega (arith, within, c.fill.ensures.size)) j below
     ∙ ap (λ values. get_or values i false) (c.follow.ensures.runs j))
     ∙ ap (λ (s : ShownRuns). shown_of s.shown s.program faults coins) c.self.view_is

@@ -1,0 +1,23 @@
+-- The reference run goes over the fault first, and the frames follow it.
+use Rattle.std.proofs.Common.{refl}
+use Rattle.circuit_walk.specs.Steps.{listed}
+use Rattle.circuit_walk.specs.declared.step.Step.TheVariants.{Fault}
+use Rattle.frames.proofs.FollowingFrames.{following-next, following-other}
+use Rattle.frames.proofs.follow.FollowingStepTaker.fault.Goals as goal
+
+pub go_over-requires-clause-next : goal.go_over-requires-clause-next
+go_over-requires-clause-next g c =
+    let n = c.requires.1 in
+    let program = c.args.program.now.listing in
+    following-next program c.well_formed-2.ensures n.0.faults.now n.0.coins.now n.1 _ _ _ _ _ _ n.2.2 (listed program.qubits (Fault c.args.name c.args.letters)) n.3
+
+pub returns : goal.returns
+returns g c begun k before here =
+    let program = c.args.program.now.listing in
+    let gone = c.go_over.ensures in
+    let over = c.apply_fault-self in (
+      before.0,
+      before.1,
+      following-other program c.well_formed-2.ensures begun.faults.now begun.coins.now k _ _ _ _ _ _ before.2 (listed program.qubits (Fault c.args.name c.args.letters)) here c.go_over.new.self gone.over gone.reference gone.records
+          refl 0 over.result over.new.frames over.ensures.goes over.ensures.still,
+    )

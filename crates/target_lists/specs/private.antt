@@ -1,9 +1,0 @@
-pub mod Coordinates
-pub mod Detecting
-pub mod Detectors
-pub mod Factors
-pub mod Gathered
-pub mod Including
-pub mod Observables
-pub mod Placing
-pub mod Records
