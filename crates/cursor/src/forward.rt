@@ -5,7 +5,7 @@ ghost use Rattle.std.specs.Prelude.{◌≡◌, ◌<◌, ◌≤◌, ◌^◌, ℕ,
 ghost use Rattle.stim_lexer.specs.Trees.{BlockStart, BlockEnd};
 ghost use Rattle.cursor.specs.Places.{AreNested, IsPlace, levels_of};
 ghost use Rattle.cursor.specs.private.Forward.{IsPassing, Passes, GoesTo};
-ghost use Rattle.cursor.specs.private.Marks.{IsChosen};
+ghost use Rattle.cursor.specs.private.Marks.{IsChosen, IsOther};
 
 use crate::choice::Choice;
 use crate::cursor::{Cursor, Level};
@@ -75,6 +75,30 @@ impl Cursor {
         1
     }
 
+    // Goes over an instruction that isn't chosen, and over those behind it. The place is kept apart on the way, so that the
+    // cursor is written once.
+    #[inline(always)]
+    fn pass_others<C: Choice<O>, O: Copy, T: Copy, A: Allocator + Copy>(
+        &mut self,
+        items: &Items<'_, O, T, A>,
+        fresh: usize,
+    )
+        requires passing { IsPassing (λ i. C.chosen i.operation) items.now.items
+            self.old.index (levels_of self.old) fresh }
+        requires other { IsOther (λ i. C.chosen i.operation)
+            (slice_get items.now.items self.old.index) }
+        requires few { length items.now.items < 2 ^ 64 }
+        ensures { Passes (λ i. C.chosen i.operation) items.now.items
+            self.old fresh self.new fresh }
+    {
+        let count = items.len();
+        let mut index = self.index + 1;
+        while index < count && is_other::<C, O, T, A>(items, index) {
+            index += 1;
+        }
+        self.index = index;
+    }
+
     /// Goes to the next chosen instruction, or to the end. Answers whether one is there.
     pub(crate) fn go_to_instruction<C: Choice<O>, O: Copy, T: Copy, A: Allocator + Copy>(
         &mut self,
@@ -98,7 +122,7 @@ impl Cursor {
                     if C::is_chosen(operation) {
                         return true;
                     }
-                    self.index += 1;
+                    self.pass_others::<C, O, T, A>(items, fresh);
                 }
                 Mark::Start { iterations } => {
                     fresh = self.enter::<C, O, T, A>(items, iterations, fresh);
@@ -107,5 +131,20 @@ impl Cursor {
             }
         }
         false
+    }
+}
+
+// Whether an instruction stands at a place that isn't chosen.
+#[inline(always)]
+fn is_other<C: Choice<O>, O: Copy, T: Copy, A: Allocator + Copy>(
+    items: &Items<'_, O, T, A>,
+    i: usize,
+) -> bool
+    requires { i < length items.now.items }
+    ensures { result ≡ true → IsOther (λ x. C.chosen x.operation) (slice_get items.now.items i) }
+{
+    match mark_at(items, i) {
+        Mark::Does(operation) => !C::is_chosen(operation),
+        _ => false,
     }
 }
