@@ -72,18 +72,18 @@ none_before first second start i low high short before none k h below =
     (λ (e : 64 * i + low ≤ k). neither_in first second i (k % 64) k (omega arith) refl (none (k % 64) (omega arith) (omega arith)))
     (cases_lt k (64 * i + low))
 
--- the places of a word without a mark
-pub none_unmarked : (first second : List ℕ) (marks start i low : ℕ) → MarksBoth marks first second → i < 64 → bit_of marks i ≡ false
-    → ((k : ℕ) → start ≤ k → k < 64 * i + low → (bit_in first k ≡ false) × (bit_in second k ≡ false))
-    → (k : ℕ) → start ≤ k → k < 64 * i + 64 → (bit_in first k ≡ false) × (bit_in second k ≡ false)
-none_unmarked first second marks start i low both few unmarked before k h below =
+-- the places of words without marks, after those before word i
+pub none_unmarked : (first second : List ℕ) (marks start i next : ℕ) → MarksBoth marks first second
+    → ((k : ℕ) → i ≤ k → k < next → (k < 64) × (bit_of marks k ≡ false))
+    → ((k : ℕ) → start ≤ k → k < 64 * i → (bit_in first k ≡ false) × (bit_in second k ≡ false))
+    → (k : ℕ) → start ≤ k → k < 64 * next → (bit_in first k ≡ false) × (bit_in second k ≡ false)
+none_unmarked first second marks start i next both unmarked before k h below =
     ⊎_elim
-    (λ (e : k < 64 * i + low). before k h e)
-    (λ (e : 64 * i + low ≤ k).
-    let at : k / 64 ≡ i = omega arith in
-    let none : bit_of marks (k / 64) ≡ false = ap (bit_of marks) at ∙ unmarked in
-    (both.of_x.blank k (omega arith) none, both.of_z.blank k (omega arith) none))
-    (cases_lt k (64 * i + low))
+    (λ (e : k < 64 * i). before k h e)
+    (λ (e : 64 * i ≤ k).
+    let none = unmarked (k / 64) (omega arith) (omega arith) in
+    (both.of_x.blank k none.0 none.1, both.of_z.blank k none.0 none.1))
+    (cases_lt k (64 * i))
 
 -- past both lists no bit is set
 pub none_past : (first second : List ℕ) (start i low : ℕ) → length second ≡ length first → length first ≤ i

@@ -1,15 +1,15 @@
 -- The bit at a place of a list of words, and the row that the words hold: its length, the bit at a place, a row from
 -- its bits, and a row after one bit was put.
-use Rattle.std.proofs.Common.{take, drop, ◌++◌, ◌≡◌, ℕ, zero, suc, ◌+◌, ◌*◌, ◌/◌, ◌%◌, ◌^◌, ◌<◌, ◌≤◌, List, [], ◌∷◌, map, length, get_or, set, replicate, Bool, true, false, not, cond, eqb, refl, sym, ap, subst, ◌∙◌, arith, ⊎_elim, bit_xor, Option, Some, None, get_or-set_same, get_or-set_other, length-set}
+use Rattle.std.proofs.Common.{take, drop, ◌++◌, ◌≡◌, ℕ, zero, suc, ◌+◌, ◌*◌, ◌/◌, ◌%◌, ◌^◌, ◌<◌, ◌≤◌, ◌⊎◌, List, [], ◌∷◌, map, length, get_or, set, replicate, Bool, true, false, not, cond, eqb, refl, sym, ap, subst, ◌∙◌, arith, ⊎_elim, bit_xor, Option, Some, None, get_or-set_same, get_or-set_other, length-set}
 use Rattle.std.specs.List.{range_with_len}
 use Rattle.std.proofs.Math.Seq.{take-append_seam}
 use Rattle.std.specs.Option.{IfNone, IfSome}
-use Rattle.std.proofs.lemmas.Bool.{cases_eq, cases_lt, eq-eqb, ne_eqb, true≢false}
+use Rattle.std.proofs.lemmas.Bool.{cases_eq, cases_lt, eq-eqb, ne_eqb}
 use Rattle.std.proofs.lemmas.List.{get_or_past}
 use Rattle.std.proofs.lemmas.Nat.{div-mul-add, mod-mul-add}
 use Rattle.std.proofs.lemmas.List.FromFn.{length-map-range_with_len, get_or-map-range_with_len, fill_by_all}
 use Rattle.std.proofs.lemmas.Simd.{length-replicate, get_or-replicate}
-use Rattle.bit_rows.specs.Rows.{exclusive_or, xor_rows, first_one_of}
+use Rattle.bit_rows.specs.Rows.{exclusive_or, xor_rows, first_one_of, AreZeroAt}
 use Rattle.bit_rows.specs.private.Words.{bit_of, bit_in, row_of, words_for, HoldsRow}
 use Rattle.bit_rows.proofs.BitLaws.{at_place, bit_of-xor, bit_of-zero, zero_from_bits}
 
@@ -173,18 +173,13 @@ held_zeros n m fits count =
 pub row_of_zero_words : (n m : ℕ) → row_of n (replicate m 0) ≡ replicate n false
 row_of_zero_words n m = row_of_zeros n (replicate m 0) (λ i h. bit_in_zeros (replicate m 0) (zeros_everywhere m) i)
 
--- ---- what the searches tell of the row
-pub first_one_found : (n : ℕ) (words : List ℕ) (row : List Bool) (found : Option ℕ) → HoldsRow n words → row_of n words ≡ row
-    → IfNone found ((k : ℕ) → bit_in words k ≡ false) → IfSome found (λ i. bit_in words i ≡ true)
-    → IfSome found (λ i. (k : ℕ) → k < i → bit_in words k ≡ false) → found ≡ first_one_of row
-first_one_found n words row None held seen none is_set first =
-    sym (first_one_none row (λ k h. ap (λ v. get_or v k false) (sym seen) ∙ get_or-row_of n words k (omega (arith, row_long n words row seen)) ∙ none k))
-first_one_found n words row (Some i) held seen none is_set first =
-    let long = row_long n words row seen in
-    let within : i < n =
-    ⊎_elim (λ (h : i < n). h) (λ (h : n ≤ i). absurd (true≢false (sym is_set ∙ held.blank i h))) (cases_lt i n) in
-    let bit : (k : ℕ) → k < n → get_or row k false ≡ bit_in words k = λ k h. ap (λ v. get_or v k false) (sym seen) ∙ get_or-row_of n words k h in
-    sym (first_one_is row i (omega (arith, long)) (bit i within ∙ is_set) (λ k h. bit k (omega arith) ∙ first k h))
+-- ---- what the search tells of the row
+pub first_one_found : (row : List Bool) (found : Option ℕ) → IfNone found ((k : ℕ) → 0 ≤ k → AreZeroAt k row row)
+    → IfSome found (λ i. (0 ≤ i) × (i < length row)) → IfSome found (λ i. (get_or row i false ≡ true) ⊎ (get_or row i false ≡ true))
+    → IfSome found (λ i. (k : ℕ) → 0 ≤ k → k < i → AreZeroAt k row row) → found ≡ first_one_of row
+first_one_found row None none within is_set before = sym (first_one_none row (λ k h. (none k (omega arith)).0))
+first_one_found row (Some i) none within is_set before =
+    sym (first_one_is row i within.1 (⊎_elim (λ e. e) (λ e. e) is_set) (λ k h. (before k (omega arith) h).0))
 
 -- the bit to turn, named by its place in its word or in the row
 pub turned : (words : List ℕ) (place j : ℕ)
@@ -198,16 +193,6 @@ turned words place j =
     ap (λ t. cond t (not (bit_of (get_or words (place / 64) 0) j)) (bit_of (get_or words (place / 64) 0) j)) (ne_eqb j (place % 64) ne)
     ∙ sym (ap (λ t. cond t (not (bit_of (get_or words (place / 64) 0) (place % 64))) (bit_of (get_or words (place / 64) 0) j)) (ne_eqb j (place % 64) ne)))
     (cases_eq j (place % 64))
-
--- the first set bit of a word that is not 0, after words that are
-pub first_of_word : (words : List ℕ) (i low : ℕ) → low < 64 → ((k : ℕ) → k < i → get_or words k 0 ≡ 0)
-    → ((j : ℕ) → j < low → bit_of (get_or words i 0) j ≡ false) → (k : ℕ) → k < 64 * i + low → bit_in words k ≡ false
-unfolding bit_in
-first_of_word words i low short zeros none k h =
-    ⊎_elim
-    (λ (e : k / 64 ≡ i). ap (λ v. bit_of (get_or words v 0) (k % 64)) e ∙ none (k % 64) (omega arith))
-    (λ (ne : k / 64 ≡ i → ⊥). ap (λ w. bit_of w (k % 64)) (zeros (k / 64) (omega arith)) ∙ bit_of-zero (k % 64))
-    (cases_eq (k / 64) i)
 
 -- what holds of a slice holds of the vector that it was lent by, once it is written back
 pub rewritten : (P : List ℕ → Type 0) (len : ℕ) (old new items : List ℕ) → length old ≡ len → length new ≡ length old → P new

@@ -3,7 +3,7 @@ ghost use Rattle.std.specs.Prelude.{◌≡◌, ◌==◌, ℕ, ◌+◌, ◌*◌, 
 ghost use Rattle.bit_rows.specs.private.Multiplied.{MarksBoth};
 ghost use Rattle.bit_rows.specs.private.Words.{bit_of, bit_in};
 
-use crate::marks::is_unmarked;
+use crate::marks::next_marked;
 
 #[inline(always)]
 pub(crate) fn bit_at_place(words: &[u64], place: usize) -> bool
@@ -33,22 +33,9 @@ pub(crate) fn flip_bit(words: &mut [u64], place: usize)
     words[place / 64] ^= mask;
 }
 
-// The first place with a set bit.
-pub(crate) fn first_place(words: &[u64]) -> Option<usize>
-    requires { 64 * length words.now ≤ 2 ^ 64 }
-    ensures none { IfNone result ((k : ℕ) → bit_in words.now k ≡ false) }
-    ensures is_set { IfSome result (λ i. bit_in words.now i ≡ true) }
-    ensures first { IfSome result (λ i. (k : ℕ) → k < i → bit_in words.now k ≡ false) }
-{
-    for (i, word) in words.iter().enumerate() {
-        if *word != 0 {
-            return Some(64 * i + word.trailing_zeros() as usize);
-        }
-    }
-    None
-}
-
-// The first place from `start` on with a set bit in one of two lists. Words without marks aren't read.
+// The first place from `start` on with a set bit in one of two lists. Behind the word of `start` only words with marks are
+// read.
+#[inline(always)]
 pub(crate) fn first_place_from(
     first: &[u64],
     second: &[u64],
@@ -68,16 +55,13 @@ pub(crate) fn first_place_from(
         → k < i
         → (bit_in first.now k ≡ false) × (bit_in second.now k ≡ false)) }
 {
+    let mut i = start / 64;
     let mut low = start % 64;
-    for i in start / 64..first.len() {
-        let unmarked = is_unmarked(marks, i);
-        if unmarked {
-            low = 0;
-            continue;
-        }
+    while i < first.len() {
         if let Some(bit) = first_bit_from(first[i] | second[i], low) {
             return Some(64 * i + bit);
         }
+        i = next_marked(marks, i + 1);
         low = 0;
     }
     None
@@ -85,7 +69,7 @@ pub(crate) fn first_place_from(
 
 // The first set bit of a word from a bit on.
 #[inline(always)]
-fn first_bit_from(word: u64, start: usize) -> Option<usize>
+pub(crate) fn first_bit_from(word: u64, start: usize) -> Option<usize>
     requires { start < 64 }
     ensures none { IfNone result ((j : ℕ) → start ≤ j → j < 64 → bit_of word j ≡ false) }
     ensures within { IfSome result (λ i. (start ≤ i) × (i < 64)) }

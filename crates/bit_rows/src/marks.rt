@@ -1,6 +1,8 @@
 // Marks of a list of words: one bit for each of the first 64 words, set where the word may have ones. A block is four words.
-ghost use Rattle.std.specs.Prelude.{◌≡◌, ◌==◌, ◌⊎◌, ◌<◌, ◌+◌, ◌*◌, ◌/◌, ℕ, true, false, if◌then◌else◌};
+ghost use Rattle.std.specs.Prelude.{◌≡◌, ◌==◌, ◌⊎◌, ◌<◌, ◌≤◌, ◌+◌, ◌*◌, ◌/◌, ℕ, true, false, if◌then◌else◌};
 ghost use Rattle.bit_rows.specs.private.Words.{bit_of};
+
+use crate::bits::first_bit_from;
 
 // Whether a word is known to have no ones.
 #[inline(always)]
@@ -11,6 +13,18 @@ pub(crate) fn is_unmarked(marks: u64, word: usize) -> bool
         return false;
     }
     !((marks >> word) & 1 == 1)
+}
+
+// The first word from `word` on that isn't known to have no ones.
+#[inline(always)]
+pub(crate) fn next_marked(marks: u64, word: usize) -> usize
+    ensures from { word ≤ result }
+    ensures unmarked { (k : ℕ) → word ≤ k → k < result → (k < 64) × (bit_of marks k ≡ false) }
+{
+    if word >= 64 {
+        return word;
+    }
+    first_bit_from(marks, word).unwrap_or(64)
 }
 
 // Whether a block is known to have no ones.

@@ -1,7 +1,7 @@
 ghost use Rattle.std.specs.Prelude.{◌≡◌, ◌↔◌, ◌<◌, ◌≤◌, ◌⊎◌, ℕ, List, Bool, true, false, not, length, replicate, slice_index_or, slice_set, IfOk, IfSome, IfNone, IsTrue};
 ghost use Rattle.bit_rows.specs.Rows.{AreZeroAt, xor_rows, and_parity_of, phase_of, first_one_of};
 
-use crate::bits::{bit_at_place, first_place, first_place_from, flip_bit, put_bit};
+use crate::bits::{bit_at_place, first_place_from, flip_bit, put_bit};
 use crate::marks::{either, is_unmarked, mark, marks_of_sum};
 use crate::multiply::multiply_words;
 use crate::parity::has_odd_common_ones;
@@ -200,7 +200,7 @@ impl<A: Allocator + Copy> BitRow<A> {
     pub fn first_one(&self) -> Option<usize>
         ensures { result ≡ first_one_of self.now }
     {
-        first_place(self.words.as_slice())
+        BitRow::first_one_from(self, self, 0)
     }
 
     /// The first place from `start` on at which one of two rows has a one.

@@ -11,23 +11,16 @@ pub returns-in-Some-clause-before : goal.returns-in-Some-clause-before
 returns-in-Some-clause-before c =
     none_before c.args.first.now c.args.second.now c.args.start c.loop-i.i c.loop-i.low c.in-Some.bit (omega (arith, c.in-Some.ensures.within.1)) c.loop-i.invariant.before c.in-Some.ensures.before
 
-pub loop-i-preserved-then-unmarked : goal.loop-i-preserved-then-unmarked
-loop-i-preserved-then-unmarked c =
-    let none = c.is_unmarked-unmarked.ensures c.if-unmarked.true in
-    let before = none_unmarked c.args.first.now c.args.second.now c.args.marks c.args.start c.loop-i.i c.loop-i.low c.requires.marks none.0 none.1 c.loop-i.invariant.before in
-    record {
-      low = omega arith;
-      after = omega (arith, c.loop-i.invariant.after, c.loop-i.invariant.low);
-      before = λ k h below. before k h (omega (arith, below));
-    }
-
 pub loop-i-preserved : goal.loop-i-preserved
 loop-i-preserved c =
+    let marked = c.next_marked-i.ensures in
     let before = none_before c.args.first.now c.args.second.now c.args.start c.loop-i.i c.loop-i.low 64 (omega arith) c.loop-i.invariant.before c.in_default.ensures.none in
     record {
       low = omega arith;
-      after = omega (arith, c.loop-i.invariant.after, c.loop-i.invariant.low);
-      before = λ k h below. before k h (omega (arith, below));
+      after = omega (arith, c.loop-i.invariant.after, c.loop-i.invariant.low, marked.from);
+      before = λ k h below.
+          none_unmarked c.args.first.now c.args.second.now c.args.marks c.args.start (c.loop-i.i + 1) c.next_marked-i.result c.requires.marks marked.unmarked
+          (λ k h below. before k h (omega (arith, below))) k h (omega (arith, below));
     }
 
 pub returns-clause-none : goal.returns-clause-none
