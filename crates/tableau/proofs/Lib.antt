@@ -1,3 +1,4 @@
+pub mod ArrangedPairs
 pub mod DecodeLoop
 pub mod DecodingLaws
 pub mod DiagonalWords

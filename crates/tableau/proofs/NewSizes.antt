@@ -1,20 +1,12 @@
 -- The pairs that gates make anew are as long as those that they are made of.
 use Rattle.std.proofs.Common.{◌≡◌, ℕ, length, sym, subst}
 use Rattle.gate_table.specs.declared.gate.Gate.{Gate}
-use Rattle.gate_table.specs.Images.{image1, image2, inverse_of}
+use Rattle.gate_table.specs.Images.{image2, inverse_of}
 use Rattle.pauli_word.specs.declared.letter.Letter.{Letter}
-use Rattle.pauli_word.specs.declared.letter.Letter.TheVariants.{X, Z}
 use Rattle.tableau.specs.private.Encoding.{Pair, word_of, HasLength}
-use Rattle.tableau.specs.private.EncodingSteps.{preimage_word, preimage_product}
+use Rattle.tableau.specs.private.EncodingSteps.{preimage_product}
 use Rattle.tableau.proofs.RowMaps.{word_of_size}
 use Rattle.tableau.proofs.Turns.{product_size}
-
-pub one_size : (n m : ℕ) (g : Gate) (r new : Pair) → m ≡ n → HasLength n r → new ≡ (preimage_word m g r X, preimage_word m g r Z) → HasLength n new
-one_size n m g r new e size made =
-    let same : HasLength m r = subst (λ k. HasLength k r) (sym e) size in
-    let long : HasLength m (preimage_word m g r X, preimage_word m g r Z) =
-    record { x = word_of_size m r (image1 (inverse_of g) X).0 same.x same.z; z = word_of_size m r (image1 (inverse_of g) Z).0 same.x same.z } in
-    subst (λ k. HasLength k new) e (subst (HasLength m) (sym made) long)
 
 product_long : (m : ℕ) (g : Gate) (r s : Pair) (p : Letter × Letter) → HasLength m r → HasLength m s → length (preimage_product m g r s p).letters ≡ m
 product_long m g r s p r_size s_size =

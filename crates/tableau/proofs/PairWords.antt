@@ -64,6 +64,16 @@ module _ (rows : List Pair) (is : IsTableau (length rows) rows) where
   pub pair_long : (q : ℕ) (d : Pair) → q < n → HasLength n (get_or rows q d)
   pair_long q d h = pair_size q (get_or rows q d) h (get_or_default rows q d (get_or rows q d) h)
 
+  lone_at : (q : ℕ) (a : Letter) → q < n → letter_at (lone_letter n q a) q ≡ a
+  lone_at q a h = get_or-set_same (no_letters n) q a I (subst (λ m. q < m) (sym (length-replicate n I)) h)
+
+  pub pair_apart : (q : ℕ) (r : Pair) → q < n → r ≡ get_or rows q r → anticommute r.0.letters r.1.letters ≡ true
+  pair_apart q r h e =
+      ap (λ t. anticommute t.0.letters t.1.letters) (pair_read n rows q r h e)
+      ∙ (ap₂ (λ x z. anticommute x.letters z.letters) (sym (row_encoded n rows is q X h)) (sym (row_encoded n rows is q Z h))
+      ∙ (is.clifford.keeps.anticommuting (lone n q X) (lone n q Z) (length-lone_letter n q X) (length-lone_letter n q Z)
+      ∙ (anticommute-lone_letter n (lone_letter n q Z) q X (length-lone_letter n q Z) h ∙ ap (letters_clash X) (lone_at q Z h))))
+
   -- the code of a word to which a letter is added
   module _ (w : List Letter) (q : ℕ) (size : length w ≡ n) (h : q < n) (at_q : letter_at w q ≡ I) where
     pub code_added : (a : Letter) → product (E (signed w false)) (word_of n (pair_at n rows q) a) ≡ E (signed (set w q a) false)
@@ -122,9 +132,8 @@ module _ (rows : List Pair) (is : IsTableau (length rows) rows) where
   module _ (g : Gate) (q : ℕ) (h : q < n) where
     preimage_lone : (a : Letter) → preimage_at g q (lone n q a) ≡ with_sign_changed (image1 (inverse_of g) a).1 (lone n q (image1 (inverse_of g) a).0)
     preimage_lone a =
-        let at_q : letter_at (lone_letter n q a) q ≡ a = get_or-set_same (no_letters n) q a I (subst (λ m. q < m) (sym (length-replicate n I)) h) in
         let image = image1 (inverse_of g) a in
-        ap (λ b. signed (set (lone_letter n q a) q (image1 (inverse_of g) b).0) (image1 (inverse_of g) b).1) at_q
+        ap (λ b. signed (set (lone_letter n q a) q (image1 (inverse_of g) b).0) (image1 (inverse_of g) b).1) (lone_at q a h)
         ∙ ap₂ signed (set-set (no_letters n) q a image.0) (sym (exclusive_or-false image.1))
 
     preimage_is : (a : Letter) → preimage_word n g (pair_at n rows q) a ≡ E (preimage_at g q (lone n q a))
@@ -144,9 +153,6 @@ module _ (rows : List Pair) (is : IsTableau (length rows) rows) where
   module _ (g : Gate) (a b : ℕ) (a_in : a < n) (b_in : b < n) (ne : a ≢ b) where
     at_b : (x : Letter) → letter_at (lone_letter n a x) b ≡ I
     at_b x = get_or-set_other (no_letters n) a b x I (λ e. ne (sym e)) ∙ letter_at-none n b
-
-    at_a : (x : Letter) → letter_at (lone_letter n a x) a ≡ x
-    at_a x = get_or-set_same (no_letters n) a x I (subst (λ m. a < m) (sym (length-replicate n I)) a_in)
 
     abbrev two : Letter → Letter → Signed
     two x y = signed (set (lone_letter n a x) b y) false
@@ -173,18 +179,15 @@ module _ (rows : List Pair) (is : IsTableau (length rows) rows) where
     none_b : (y : Letter) → letter_at (lone_letter n b y) a ≡ I
     none_b y = get_or-set_other (no_letters n) b a y I ne ∙ letter_at-none n a
 
-    at_b_itself : (y : Letter) → letter_at (lone_letter n b y) b ≡ y
-    at_b_itself y = get_or-set_same (no_letters n) b y I (subst (λ m. b < m) (sym (length-replicate n I)) b_in)
-
     abbrev f : Signed → Signed
     f p = E (preimage_at_two g a b p)
 
     first_is : (x : Letter) → preimage_product n g (pair_at n rows a) (pair_at n rows b) (x, I) ≡ f (lone n a x)
-    first_is x = preimage_two (lone_letter n a x) x I (at_a x) (at_b x) (λ u v. ap (λ l. set l b v) (set-set (no_letters n) a x u))
+    first_is x = preimage_two (lone_letter n a x) x I (lone_at a x a_in) (at_b x) (λ u v. ap (λ l. set l b v) (set-set (no_letters n) a x u))
 
     second_is : (y : Letter) → preimage_product n g (pair_at n rows a) (pair_at n rows b) (I, y) ≡ f (lone n b y)
     second_is y =
-        preimage_two (lone_letter n b y) I y (none_b y) (at_b_itself y)
+        preimage_two (lone_letter n b y) I y (none_b y) (lone_at b y b_in)
         (λ u v.
         set_comm (lone_letter n b y) a b u v ne
         ∙ (ap (λ l. set l a u) (set-set (no_letters n) b y v) ∙ set_comm (no_letters n) b a v u (λ e. ne (sym e))))

@@ -1,6 +1,7 @@
 //! The codes of letters and words: what they are under the map of the inverse circuit. A word whose code has only I and Z is
 //! decided.
 ghost use Rattle.std.specs.Prelude.{◌≡◌, ◌<◌, ℕ, length, IfSome};
+ghost use Rattle.pauli_word.specs.Words.{lone_letter};
 ghost use Rattle.tableau.specs.private.Encoding.{HasLength, IsTableau, word_of};
 ghost use Rattle.tableau.specs.private.EncodingSteps.{lone, code_of, first_letters, IsDiagonal};
 
@@ -54,7 +55,24 @@ fn encode_first<A: Allocator + Copy>(
     }
 }
 
-/// Makes `word.0` a letter at a qubit, and `code.0` its code.
+/// Makes `code.0` the code of a letter at a qubit.
+pub(crate) fn set_code<A: Allocator + Copy>(
+    rows: &Vec<Pair<A>, A>,
+    code: &mut Pair<A>,
+    letter: Letter,
+    qubit: usize,
+)
+    requires tableau { IsTableau (length rows.now.items) rows.now.items }
+    requires inside { qubit < length rows.now.items }
+    requires code { HasLength (length rows.now.items) code.old }
+    ensures code { HasLength (length rows.now.items) code.new }
+    ensures of_letter { let n = length rows.now.items in
+        code.new.0 ≡ code_of n rows.now.items (lone_letter n qubit letter) }
+{
+    set_word(&mut code.0, &rows[qubit], letter, false);
+}
+
+/// The same, and makes `word.0` the letter at the qubit.
 pub(crate) fn encode_letter<A: Allocator + Copy>(
     rows: &Vec<Pair<A>, A>,
     word: &mut Pair<A>,
@@ -74,7 +92,7 @@ pub(crate) fn encode_letter<A: Allocator + Copy>(
 {
     word.0.clear();
     word.0.set_letter(qubit, letter);
-    set_word(&mut code.0, &rows[qubit], letter, false);
+    set_code(rows, code, letter, qubit);
 }
 
 /// The sign of the word of X or of Z, where it has only I and Z. None doesn't mean that the outcome is random.

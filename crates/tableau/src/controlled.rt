@@ -13,7 +13,7 @@ use gate_table::Gate;
 use pauli_word::Letter;
 use std::alloc::Allocator;
 
-/// The letters of a controlled gate on its first and its second qubit. None for other gates, and where the first is Y.
+/// The letters of a controlled gate on its first and its second qubit. None for other gates, and where both are Y.
 #[inline(always)]
 pub(crate) fn controlled_letters(gate: Gate) -> Option<(Letter, Letter)>
     ensures { IfSome result (λ letters. IsControlled gate letters.0 letters.1) }
@@ -25,12 +25,14 @@ pub(crate) fn controlled_letters(gate: Gate) -> Option<(Letter, Letter)>
         Gate::XCX => Some((Letter::X, Letter::X)),
         Gate::XCY => Some((Letter::X, Letter::Y)),
         Gate::XCZ => Some((Letter::X, Letter::Z)),
+        Gate::YCX => Some((Letter::Y, Letter::X)),
+        Gate::YCZ => Some((Letter::Y, Letter::Z)),
         _ => None,
     }
 }
 
 /// Applies the controlled gate with these letters to two qubits. The letters of CX and CZ stand as constants, so that
-/// what depends on them is decided once, by the compiler.
+/// what depends on them is decided once, by the compiler. A gate with Y on its first qubit is one with Y on its second.
 pub(crate) fn apply_controlled<A: Allocator + Copy>(
     rows: &mut [Pair<A>],
     own: Letter,
@@ -38,13 +40,20 @@ pub(crate) fn apply_controlled<A: Allocator + Copy>(
     a: usize,
     b: usize,
 )
-    requires { CanControl own a b rows.old }
+    requires own { own ≡ Y → other ≢ Y }
+    requires rows { CanControl a b rows.old }
     ensures { rows.new ≡ after_controlled own other a b rows.old }
 {
     match (own, other) {
         (Letter::Z, Letter::X) => multiply_at(rows, Letter::Z, Letter::X, a, b),
         (Letter::Z, Letter::Z) => multiply_at(rows, Letter::Z, Letter::Z, a, b),
-        _ => multiply_at(rows, own, other, a, b),
+        _ => {
+            if own == Letter::Y {
+                multiply_at(rows, other, own, b, a)
+            } else {
+                multiply_at(rows, own, other, a, b)
+            }
+        }
     }
 }
 
@@ -56,7 +65,8 @@ fn multiply_at<A: Allocator + Copy>(
     a: usize,
     b: usize,
 )
-    requires { CanControl own a b rows.old }
+    requires own { own ≢ Y }
+    requires rows { CanControl a b rows.old }
     ensures { rows.new ≡ after_controlled own other a b rows.old }
 {
     if a < b {

@@ -1,86 +1,51 @@
 //! Gates and Pauli words: they change only the pairs of their qubits.
-ghost use Rattle.std.specs.Prelude.{◌≡◌, ◌≢◌, ◌<◌, length, false, IfSome};
+ghost use Rattle.std.specs.Prelude.{◌≡◌, ◌≢◌, ◌<◌, length, true, false};
 ghost use Rattle.gate_table.specs.Images.{arity_of};
 ghost use Rattle.pauli_word.specs.declared.letter.Letter.{Letter};
 ghost use Rattle.pauli_word.specs.declared.letter.Letter.TheVariants.{X, Z};
 ghost use Rattle.pauli_word.specs.Words.{anticommute, product, with_sign_changed};
 ghost use Rattle.tableau.specs.private.Encoding.{HasLength, IsTableau, word_of};
-ghost use Rattle.tableau.specs.private.EncodingSteps.{AppliesLetter, preimage_word, preimage_product, after_one, after_two, after_word};
+ghost use Rattle.tableau.specs.private.EncodingSteps.{preimage_word, preimage_product, after_one, after_two, after_word};
 
 use crate::controlled::{apply_controlled, controlled_letters};
-use crate::pairs::{
-    Pair, apply_letter, change_sign, exchange, multiply, multiply_first, replace, set_word,
-};
+use crate::pairs::{Pair, apply_letter, arrange, change_sign, multiply, replace, set_word};
 use gate_table::Gate;
 use pauli_word::{Letter, Word};
 use std::alloc::Allocator;
 
-/// Applies a one-qubit gate. H exchanges the two words, S and its inverse multiply one by the other, and gates other than
-/// these and letters make both anew. What it leaves in `spare` is of no use.
+/// Applies a one-qubit gate.
 #[inline(never)]
-pub(crate) fn apply_one<A: Allocator + Copy>(
-    rows: &mut Vec<Pair<A>, A>,
-    spare: &mut Pair<A>,
-    gate: Gate,
-    qubit: usize,
-)
+pub(crate) fn apply_one<A: Allocator + Copy>(rows: &mut Vec<Pair<A>, A>, gate: Gate, qubit: usize)
     requires arity { arity_of gate ≡ 1 }
     requires inside { qubit < length rows.old.items }
     requires tableau { IsTableau (length rows.old.items) rows.old.items }
-    requires spare { HasLength (length rows.old.items) spare.old }
-    ensures rows { rows.new.items ≡ after_one (length rows.old.items) gate qubit rows.old.items }
-    ensures spare { HasLength (length rows.old.items) spare.new }
+    ensures { rows.new.items ≡ after_one (length rows.old.items) gate qubit rows.old.items }
 {
-    if let Some(letter) = letter_of(gate) {
-        apply_letter(&mut rows[qubit], letter);
-        return;
-    }
-    match gate {
-        Gate::H => exchange(&mut rows[qubit]),
-        Gate::S => multiply_first(&mut rows[qubit], false),
-        Gate::SDag => multiply_first(&mut rows[qubit], true),
-        _ => {
-            set_preimages(spare, &rows[qubit], gate);
-            replace(&mut rows[qubit], spare);
-        }
-    }
+    set_preimages(&mut rows[qubit], gate);
 }
 
-// The letter that a gate applies, where it is one: it changes only signs.
-fn letter_of(gate: Gate) -> Option<Letter>
-    ensures { IfSome result (AppliesLetter gate) }
-{
-    match gate {
-        Gate::I => Some(Letter::I),
-        Gate::X => Some(Letter::X),
-        Gate::Y => Some(Letter::Y),
-        Gate::Z => Some(Letter::Z),
-        _ => None,
-    }
-}
-
-// The words of the preimages of X and Z.
-#[inline(never)]
-fn set_preimages<A: Allocator + Copy>(new: &mut Pair<A>, pair: &Pair<A>, gate: Gate)
+// Makes the words of X and Z those of their preimages.
+#[inline(always)]
+fn set_preimages<A: Allocator + Copy>(pair: &mut Pair<A>, gate: Gate)
     requires arity { arity_of gate ≡ 1 }
-    requires new { HasLength (length new.old.0.letters) new.old }
-    requires pair { HasLength (length new.old.0.letters) pair.now }
-    ensures { new.new
+    requires size { HasLength (length pair.old.0.letters) pair.old }
+    requires apart { anticommute pair.old.0.letters pair.old.1.letters ≡ true }
+    ensures { pair.new
         ≡ (
-          preimage_word (length new.old.0.letters) gate pair.now X,
-          preimage_word
-              (length new.old.0.letters) gate pair.now Z,
+          preimage_word (length pair.old.0.letters) gate pair.old X,
+          preimage_word (length pair.old.0.letters) gate pair.old Z,
         ) }
 {
     let inverse = gate.inverse();
     let (x, x_minus) = inverse.image1(Letter::X);
     let (z, z_minus) = inverse.image1(Letter::Z);
-    set_word(&mut new.0, pair, x, x_minus);
-    set_word(&mut new.1, pair, z, z_minus);
+    arrange(pair, x, z);
+    change_sign(&mut pair.0, x_minus);
+    change_sign(&mut pair.1, z_minus);
 }
 
-/// Applies a two-qubit gate. SWAP exchanges two pairs, and a gate that isn't controlled makes all four words anew, in `first`
-/// and `second`. What it leaves there is of no use.
+/// Applies a two-qubit gate. SWAP exchanges two pairs, and a gate that isn't controlled makes all four words anew. What it
+/// leaves in `first` and `second` is of no use.
 #[inline(never)]
 pub(crate) fn apply_two<A: Allocator + Copy>(
     rows: &mut Vec<Pair<A>, A>,
@@ -109,6 +74,30 @@ pub(crate) fn apply_two<A: Allocator + Copy>(
         apply_controlled(rows.as_mut_slice(), letters.0, letters.1, a, b);
         return;
     }
+    make_anew(rows, first, second, gate, a, b);
+}
+
+// The four words made anew, in `first` and `second`.
+#[inline(never)]
+fn make_anew<A: Allocator + Copy>(
+    rows: &mut Vec<Pair<A>, A>,
+    first: &mut Pair<A>,
+    second: &mut Pair<A>,
+    gate: Gate,
+    a: usize,
+    b: usize,
+)
+    requires arity { arity_of gate ≡ 2 }
+    requires first_inside { a < length rows.old.items }
+    requires second_inside { b < length rows.old.items }
+    requires differ { a ≢ b }
+    requires tableau { IsTableau (length rows.old.items) rows.old.items }
+    requires first { HasLength (length rows.old.items) first.old }
+    requires second { HasLength (length rows.old.items) second.old }
+    ensures rows { rows.new.items ≡ after_two (length rows.old.items) gate a b rows.old.items }
+    ensures first { HasLength (length rows.old.items) first.new }
+    ensures second { HasLength (length rows.old.items) second.new }
+{
     set_products(
         first,
         &rows[a],

@@ -2,14 +2,16 @@
 //! is random, half of the rows are multiplied by one word, and of the others one bit is read.
 ghost use Rattle.std.specs.Prelude.{◌≡◌, ◌+◌, ◌^◌, ◌<◌, ℕ, length, All};
 ghost use Rattle.pauli_word.specs.declared.letter.Letter.TheVariants.{Z};
-ghost use Rattle.pauli_word.specs.Letters.{letters_clash};
+ghost use Rattle.pauli_word.specs.Letters.{is_minus, letter_power, letter_product, letters_clash};
 ghost use Rattle.pauli_word.specs.Parity.{exclusive_or};
-ghost use Rattle.pauli_word.specs.Words.{anticommute, letter_at, product, with_sign_changed, IsNextLetter};
+ghost use Rattle.pauli_word.specs.Words.{anticommute, letter_at, lone_letter, product, with_sign_changed, IsNextLetter};
 ghost use Rattle.tableau.specs.private.CliffordMaps.{turned};
 ghost use Rattle.tableau.specs.private.Encoding.{HasLength, IsTableau, pair_at};
 ghost use Rattle.tableau.specs.private.EncodingSteps.{lone, mapped, code_of, after_measurement, outcome_of, TurnsAt};
+ghost use Rattle.tableau.specs.private.Waiting.{measured_letter};
 
 use crate::pairs::{Pair, change_sign};
+use crate::waiting_turns::{Origin, measured_at};
 use pauli_word::{Letter, Word};
 use std::alloc::Allocator;
 
@@ -40,6 +42,37 @@ pub(crate) fn measure_code<A: Allocator + Copy>(
     }
 }
 
+/// The same for a letter at a qubit, whose code is `code.0`.
+pub(crate) fn measure_letter<A: Allocator + Copy>(
+    rows: &mut Vec<Pair<A>, A>,
+    code: &mut Pair<A>,
+    letter: Letter,
+    qubit: usize,
+    coin: bool,
+) -> bool
+    requires tableau { IsTableau (length rows.old.items) rows.old.items }
+    requires inside { qubit < length rows.old.items }
+    requires code { HasLength (length rows.old.items) code.old }
+    requires of_letter { let n = length rows.old.items in
+        code.old.0 ≡ code_of n rows.old.items (lone_letter n qubit letter) }
+    ensures rows { rows.new.items
+        ≡ after_measurement (length rows.old.items) code.old.0 coin rows.old.items }
+    ensures code { HasLength (length rows.old.items) code.new }
+    ensures outcome { result ≡ outcome_of code.old.0 coin }
+{
+    let Some(pivot) = code.0.lowest_x_or_y() else {
+        return code.0.sign();
+    };
+    set_turn(code, pivot, coin);
+    let origin = Origin {
+        pivot,
+        qubit,
+        letter,
+    };
+    turn_rows_by_letter(rows, &code.1, origin);
+    coin
+}
+
 // Makes the second word Z at the qubit times the first, whose sign is changed where the coin is 1.
 pub(crate) fn set_turn<A: Allocator + Copy>(code: &mut Pair<A>, qubit: usize, coin: bool)
     requires inside { qubit < length code.old.0.letters }
@@ -49,9 +82,23 @@ pub(crate) fn set_turn<A: Allocator + Copy>(code: &mut Pair<A>, qubit: usize, co
         ≡ product (lone (length code.old.0.letters) qubit Z) (with_sign_changed coin code.old.0) }
 {
     change_sign(&mut code.0, coin);
-    code.1.clear();
-    code.1.set_letter(qubit, Letter::Z);
-    code.1.times(&code.0);
+    code.1.copy_from(&code.0);
+    let (letter, minus) = times_z(code.0.letter(qubit));
+    code.1.set_letter(qubit, letter);
+    change_sign(&mut code.1, minus);
+}
+
+// The letter of Z times a letter, and whether the product brings a minus.
+#[inline(always)]
+fn times_z(letter: Letter) -> (Letter, bool)
+    ensures { result ≡ (letter_product Z letter, is_minus (letter_power Z letter)) }
+{
+    match letter {
+        Letter::I => (Letter::Z, false),
+        Letter::X => (Letter::Y, false),
+        Letter::Y => (Letter::X, true),
+        Letter::Z => (Letter::I, false),
+    }
 }
 
 // Whether a row anticommutes with the turn follows from the letter measured at the row's qubit, and from the row's at `qubit`.
@@ -74,6 +121,25 @@ fn turn_rows<A: Allocator + Copy>(
     for row in 0..rows.len() {
         let measured = take_letter(word, &mut next, row);
         turn_pair(&mut rows[row], turn, qubit, measured);
+    }
+}
+
+// The same where the letter at one qubit was measured.
+fn turn_rows_by_letter<A: Allocator + Copy>(
+    rows: &mut Vec<Pair<A>, A>,
+    turn: &Word<A>,
+    origin: Origin,
+)
+    requires inside { origin.pivot < length turn.now.letters }
+    requires sizes { All (HasLength (length turn.now.letters)) rows.old.items }
+    requires clashes { (i : ℕ)
+        → i < length rows.old.items
+        → TurnsAt (measured_letter origin i) origin.pivot turn.now
+        (pair_at (length turn.now.letters) rows.old.items i) }
+    ensures { rows.new.items ≡ mapped (turned turn.now) rows.old.items }
+{
+    for row in 0..rows.len() {
+        turn_pair(&mut rows[row], turn, origin.pivot, measured_at(origin, row));
     }
 }
 

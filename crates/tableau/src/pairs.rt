@@ -4,7 +4,7 @@ ghost use Rattle.pauli_word.specs.declared.letter.Letter.TheVariants.{Y};
 ghost use Rattle.pauli_word.specs.Words.{anticommute, product, with_sign_changed};
 ghost use Rattle.pauli_word.specs.Groups.{identity_word};
 ghost use Rattle.tableau.specs.private.Encoding.{HasLength, pair_at, word_of};
-ghost use Rattle.tableau.specs.private.EncodingSteps.{pair_after, start_pair, start_rows};
+ghost use Rattle.tableau.specs.private.EncodingSteps.{arranged, pair_after, start_pair, start_rows};
 
 use pauli_word::{Letter, Word};
 use std::alloc::{AllocError, Allocator};
@@ -154,22 +154,38 @@ pub(crate) fn replace<A: Allocator + Copy>(pair: &mut Pair<A>, new: &Pair<A>)
     pair.1.copy_from(&new.1);
 }
 
-/// Exchanges the words of a pair.
+/// Makes the words of X and Z those of two letters that clash, up to signs, in place.
 #[inline(always)]
-pub(crate) fn exchange<A: Allocator + Copy>(pair: &mut Pair<A>)
+pub(crate) fn arrange<A: Allocator + Copy>(pair: &mut Pair<A>, x: Letter, z: Letter)
+    requires { length pair.old.0.letters ≡ length pair.old.1.letters }
+    ensures { pair.new ≡ arranged x z pair.old }
+{
+    match (x, z) {
+        (Letter::X, Letter::Y) => times(&mut pair.1, &pair.0),
+        (Letter::Y, Letter::Z) => {
+            times(&mut pair.0, &pair.1);
+            change_sign(&mut pair.0, true);
+        }
+        (Letter::Y, Letter::X) => {
+            exchange(pair);
+            times(&mut pair.0, &pair.1);
+        }
+        (Letter::Z, Letter::X) => exchange(pair),
+        (Letter::Z, Letter::Y) => {
+            exchange(pair);
+            times(&mut pair.1, &pair.0);
+            change_sign(&mut pair.1, true);
+        }
+        _ => {}
+    }
+}
+
+// Exchanges the words of a pair.
+#[inline(always)]
+fn exchange<A: Allocator + Copy>(pair: &mut Pair<A>)
     ensures { pair.new ≡ (pair.old.1, pair.old.0) }
 {
     std::mem::swap(&mut pair.0, &mut pair.1);
-}
-
-/// Multiplies the word of X by that of Z, and changes its sign where `minus`.
-#[inline(never)]
-pub(crate) fn multiply_first<A: Allocator + Copy>(pair: &mut Pair<A>, minus: bool)
-    requires { length pair.old.0.letters ≡ length pair.old.1.letters }
-    ensures { pair.new ≡ (with_sign_changed minus (product pair.old.0 pair.old.1), pair.old.1) }
-{
-    times(&mut pair.0, &pair.1);
-    change_sign(&mut pair.0, minus);
 }
 
 /// Applies a letter to the qubit: the words of X and Z change their signs where X and Z anticommute with it.

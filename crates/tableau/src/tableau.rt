@@ -11,11 +11,11 @@ ghost use Rattle.tableau.specs.private.Waiting.{outcome_by, turned_by, turns_by,
 pub mod laws;
 mod waiting;
 
-use crate::codes::{encode, encode_letter, sign_seen};
+use crate::codes::{encode, encode_letter, set_code, sign_seen};
 use crate::collapse::collapse_code;
 use crate::decode::{decode, stabilizer_clashes};
 use crate::gates::{apply_letters, apply_one, apply_two};
-use crate::measure::{measure_code, set_turn};
+use crate::measure::{measure_code, measure_letter, set_turn};
 use crate::pairs::{Pair, identity_pair, replace, restart_pairs, set_word, start_pairs};
 use crate::waiting_turns::{Origin, Turn, seems_dense, turn_pair_by_all, turn_rows_by_all};
 use gate_table::Gate;
@@ -119,7 +119,7 @@ impl<A: Allocator + Copy> Tableau<A> {
         ensures len { row_count self.new ≡ row_count self.old }
         ensures state { HasState self.new (λ p. state_of self.old (preimage_at gate qubit p)) }
     {
-        apply_one(&mut self.rows, &mut self.first, gate, qubit);
+        apply_one(&mut self.rows, gate, qubit);
     }
 
     #[inline(always)]
@@ -181,7 +181,7 @@ impl<A: Allocator + Copy> Tableau<A> {
         if let Some(_) = sign_seen(&self.rows[qubit], letter) {
             return None;
         }
-        encode_letter(&self.rows, &mut self.second, &mut self.first, letter, qubit);
+        set_code(&self.rows, &mut self.first, letter, qubit);
         self.first.0.lowest_x_or_y()
     }
 
@@ -207,8 +207,8 @@ impl<A: Allocator + Copy> Tableau<A> {
         if let Some(outcome) = sign_seen(&self.rows[qubit], letter) {
             return outcome;
         }
-        encode_letter(&self.rows, &mut self.second, &mut self.first, letter, qubit);
-        measure_code(&mut self.rows, &self.second.0, &mut self.first, coin)
+        set_code(&self.rows, &mut self.first, letter, qubit);
+        measure_letter(&mut self.rows, &mut self.first, letter, qubit, coin)
     }
 
     /// Measures a word as if its sign were plus, and answers the outcome: faster than `collapse_word`, which names a row.

@@ -62,9 +62,9 @@ pub(crate) fn seems_dense<A: Allocator + Copy>(word: &Word<A>, n: usize) -> bool
     MANY <= seen
 }
 
-// The letter that was measured at a qubit.
+/// The letter that was measured at a qubit.
 #[inline(always)]
-fn measured_at(origin: Origin, qubit: usize) -> Letter
+pub(crate) fn measured_at(origin: Origin, qubit: usize) -> Letter
     ensures { result ≡ measured_letter origin qubit }
 {
     if qubit == origin.qubit {

@@ -12,9 +12,9 @@ use Rattle.pauli_word.specs.Letters.{letters_clash}
 use Rattle.pauli_word.specs.Words.{Signed, anticommute, product}
 use Rattle.tableau.specs.private.Encoding.{IsTableau, Pair, word_of, pair_at}
 
--- a gate with A, which isn't Y, on the first qubit and B on the second
+-- a gate with A on the first qubit and B on the second, of which not both are Y
 pub record IsControlled (g : Gate) (A B : Letter) : Type 0 where
-  pub own : A ≢ Y
+  pub own : A ≡ Y → B ≢ Y
   pub first_X : image2 (inverse_of g) X I ≡ (X, factor (letters_clash X A) B, false)
   pub first_Z : image2 (inverse_of g) Z I ≡ (Z, factor (letters_clash Z A) B, false)
   pub second_X : image2 (inverse_of g) I X ≡ (factor (letters_clash X B) A, X, false)
@@ -33,9 +33,8 @@ after_controlled A B a b rows =
     let s = pair_at n rows b in
     slice_set (slice_set rows a (controlled_pair n A B r s)) b (controlled_pair n B A s r)
 
--- a controlled gate with A on its first qubit can be applied to the rows at qubits a and b
-pub record CanControl (A : Letter) (a b : ℕ) (rows : List Pair) : Type 0 where
-  pub own : A ≢ Y
+-- a controlled gate can be applied to the rows at qubits a and b
+pub record CanControl (a b : ℕ) (rows : List Pair) : Type 0 where
   pub first_inside : a < length rows
   pub second_inside : b < length rows
   pub differ : a ≢ b

@@ -12,7 +12,7 @@ use Rattle.gate_table.specs.declared.gate.Gate.TheVariants as gate
 use Rattle.gate_table.specs.Images.{image1, image2, inverse_of}
 use Rattle.gate_table.specs.WordImages.{image_at, preimage_at, preimage_at_two}
 use Rattle.pauli_word.specs.declared.letter.Letter.{Letter}
-use Rattle.pauli_word.specs.declared.letter.Letter.TheVariants.{I, X, Z}
+use Rattle.pauli_word.specs.declared.letter.Letter.TheVariants.{I, X, Y, Z}
 use Rattle.pauli_word.specs.Letters.{letters_clash}
 use Rattle.pauli_word.specs.Parity.{exclusive_or}
 use Rattle.pauli_word.specs.Words.{Signed, signed, anticommute, with_sign_changed, product, no_letters, lone_letter, letter_at, lowest_X_or_Y}
@@ -59,9 +59,15 @@ after_two n g a b rows =
 abbrev pub pair_after : Letter → Pair → Pair
 pair_after a r = (with_sign_changed (letters_clash X a) r.0, with_sign_changed (letters_clash Z a) r.1)
 
--- a gate that does what a letter does
-abbrev pub AppliesLetter : Gate → Letter → Type 0
-AppliesLetter g a = (n : ℕ) (r : Pair) → (preimage_word n g r X, preimage_word n g r Z) ≡ pair_after a r
+-- the words of two letters that clash, from those of X and Z: exchanged where one letter is the other's, and where a letter is Y
+-- multiplied by the other word
+abbrev pub arranged : Letter → Letter → Pair → Pair
+arranged X Y r = (r.0, product r.1 r.0)
+arranged Y Z r = (with_sign_changed true (product r.0 r.1), r.1)
+arranged Y X r = (product r.1 r.0, r.0)
+arranged Z X r = (r.1, r.0)
+arranged Z Y r = (r.1, with_sign_changed true (product r.0 r.1))
+arranged a b r = r
 
 -- a word's letters before a qubit, with I from there on
 abbrev pub first_letters : ℕ → List Letter → List Letter

@@ -1,21 +1,14 @@
-use Rattle.std.proofs.Common.{◌<◌, length, set, ap, ap₂, sym, subst, ◌∙◌}
+use Rattle.std.proofs.Common.{◌<◌, length, set, ap, sym, subst, ◌∙◌}
 use Rattle.std.proofs.lemmas.List.{length-replicate}
 use Rattle.pauli_word.specs.declared.letter.Letter.TheVariants.{I}
 use Rattle.pauli_word.specs.Words.{signed}
 use Rattle.pauli_word.proofs.LoneLetters.{length-lone_letter}
-use Rattle.tableau.specs.private.Encoding.{HasLength, word_of}
 use Rattle.tableau.specs.private.EncodingSteps.{lone, code_of}
-use Rattle.tableau.proofs.PairWords.{pair_size, pair_read}
-use Rattle.tableau.proofs.RowMaps.{row_encoded}
 use Rattle.tableau.proofs.codes.encode_letter.Goals as goal
 
 pub set_letter-requires : goal.set_letter-requires
 set_letter-requires g c =
     subst (λ m. c.args.qubit < m) (sym (ap (λ w. length w.letters) c.clear.ensures ∙ (length-replicate (length c.args.word.now.0.letters) I ∙ c.requires.word.x))) c.requires.inside
-
-pub set_word-requires : goal.set_word-requires
-set_word-requires g c =
-    subst (λ m. HasLength m c.index.result.now) (sym c.requires.code.x) (pair_size c.args.rows.now.items c.requires.tableau c.args.qubit c.index.result.now c.requires.inside c.index.ensures)
 
 pub returns : goal.returns
 returns g c =
@@ -26,16 +19,9 @@ returns g c =
     let letter =
     c.set_letter.ensures
     ∙ (ap (λ w. signed (set w.letters q a) w.negative) c.clear.ensures ∙ ap (λ m. lone m q a) c.requires.word.x) in
-    let of_letter =
-    c.set_word.ensures
-    ∙ (ap₂ (λ m r. word_of m r a) c.requires.code.x (pair_read n rows q c.index.result.now c.requires.inside c.index.ensures)
-    ∙ sym (row_encoded n rows c.requires.tableau q a c.requires.inside)) in
     record {
       word = record { x = ap (λ w. length w.letters) letter ∙ length-lone_letter n q a; z = c.requires.word.z };
-      code = record {
-        x = ap (λ w. length w.letters) of_letter ∙ c.requires.tableau.clifford.keeps.size (lone n q a) (length-lone_letter n q a);
-        z = c.requires.code.z;
-      };
+      code = c.set_code.ensures.code;
       letter = letter;
-      of_word = of_letter ∙ ap (λ w. code_of n rows w.letters) (sym letter);
+      of_word = c.set_code.ensures.of_letter ∙ ap (λ w. code_of n rows w.letters) (sym letter);
     }

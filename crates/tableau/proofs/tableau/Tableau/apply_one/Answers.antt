@@ -19,12 +19,12 @@ keeps g c =
     let is = c.self.invariant.0 in
     let here = inside rows c.args.self.now is c.self.view_is c.args.qubit c.requires.inside in
     moves rows c.args.self.now is c.self.view_is c.apply_one.new.rows.items _ (preimage_at c.args.gate c.args.qubit)
-    (image_at_keeps (length rows) (inverse_of c.args.gate) c.args.qubit here).size (one_encodes (length rows) rows is c.args.gate c.args.qubit here) c.apply_one.ensures.rows
+    (image_at_keeps (length rows) (inverse_of c.args.gate) c.args.qubit here).size (one_encodes (length rows) rows is c.args.gate c.args.qubit here) c.apply_one.ensures
 
 pub invariant_of-self : goal.invariant_of-self
 invariant_of-self g c =
     let kept = keeps g (goal.at.invariant_of-self g c).After-apply_one in
-    (kept.tableau, kept.long _ c.apply_one.ensures.spare, kept.long _ c.self.invariant.2)
+    (kept.tableau, kept.long _ c.self.invariant.1, kept.long _ c.self.invariant.2)
 
 pub returns-clause-len : goal.returns-clause-len
 returns-clause-len g c = (keeps g (goal.at.returns-clause-len g c).After-apply_one).len

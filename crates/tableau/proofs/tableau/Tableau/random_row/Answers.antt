@@ -1,5 +1,5 @@
 -- A sign that is seen is the outcome; otherwise the letter's code is made, which says whether it is random.
-use Rattle.std.proofs.Common.{◌<◌, false, length, sym, subst}
+use Rattle.std.proofs.Common.{◌<◌, false, length, refl, sym, subst}
 use Rattle.pauli_word.specs.Words.{lone_letter}
 use Rattle.pauli_word.proofs.LoneLetters.{length-lone_letter}
 use Rattle.tableau.specs.Rows.{row_count}
@@ -15,8 +15,8 @@ returns-in-Some-clause-row g c =
     (seen c.self.inside.rows.items c.args.self.now c.self.invariant.0 c.self.view_is c.args.qubit (inside c.self.inside.rows.items c.args.self.now c.self.invariant.0 c.self.view_is c.args.qubit c.requires)
     c.index.result.now c.index.ensures c.args.letter false c.in-Some.field-0 (c.in-Some.ensures (length c.self.inside.rows.items))).owed.named
 
-pub encode_letter-requires-clause-inside : goal.encode_letter-requires-clause-inside
-encode_letter-requires-clause-inside g c = inside c.self.inside.rows.items c.args.self.now c.self.invariant.0 c.self.view_is c.args.qubit c.requires
+pub set_code-requires-clause-inside : goal.set_code-requires-clause-inside
+set_code-requires-clause-inside g c = inside c.self.inside.rows.items c.args.self.now c.self.invariant.0 c.self.view_is c.args.qubit c.requires
 
 pub returns-clause-row : goal.returns-clause-row
 returns-clause-row g c =
@@ -24,5 +24,5 @@ returns-clause-row g c =
     let old = c.args.self.now in
     let is = c.self.invariant.0 in
     named rows old is c.self.view_is (lone_letter (row_count old) c.args.qubit c.args.letter) false (length-lone_letter (row_count old) c.args.qubit c.args.letter)
-    c.encode_letter.new.code.0 (lone_coded rows old is c.self.view_is c.args.qubit c.args.letter _ _ c.encode_letter.ensures.letter c.encode_letter.ensures.of_word)
+    c.set_code.new.code.0 (lone_coded rows old is c.self.view_is c.args.qubit c.args.letter _ _ refl c.set_code.ensures.of_letter)
     c.lowest_x_or_y.result c.lowest_x_or_y.ensures
