@@ -61,7 +61,7 @@ pub(crate) fn first_place_from(
         if let Some(bit) = first_bit_from(first[i] | second[i], low) {
             return Some(64 * i + bit);
         }
-        i = next_marked(marks, i + 1);
+        i = next_marked(marks, i + 1, first.len());
         low = 0;
     }
     None

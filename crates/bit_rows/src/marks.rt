@@ -15,13 +15,13 @@ pub(crate) fn is_unmarked(marks: u64, word: usize) -> bool
     !((marks >> word) & 1 == 1)
 }
 
-// The first word from `word` on that isn't known to have no ones.
+// The first word from `word` on, if that comes before `end`, that isn't known to have no ones.
 #[inline(always)]
-pub(crate) fn next_marked(marks: u64, word: usize) -> usize
+pub(crate) fn next_marked(marks: u64, word: usize, end: usize) -> usize
     ensures from { word ≤ result }
     ensures unmarked { (k : ℕ) → word ≤ k → k < result → (k < 64) × (bit_of marks k ≡ false) }
 {
-    if word >= 64 {
+    if word >= end || word >= 64 {
         return word;
     }
     first_bit_from(marks, word).unwrap_or(64)
