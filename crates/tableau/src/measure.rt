@@ -11,7 +11,7 @@ ghost use Rattle.tableau.specs.private.EncodingSteps.{lone, mapped, code_of, aft
 ghost use Rattle.tableau.specs.private.Waiting.{measured_letter};
 
 use crate::pairs::{Pair, change_sign};
-use crate::waiting_turns::{Origin, measured_at};
+use crate::waiting_turns::Origin;
 use pauli_word::{Letter, Word};
 use std::alloc::Allocator;
 
@@ -139,7 +139,7 @@ fn turn_rows_by_letter<A: Allocator + Copy>(
     ensures { rows.new.items ≡ mapped (turned turn.now) rows.old.items }
 {
     for row in 0..rows.len() {
-        turn_pair(&mut rows[row], turn, origin.pivot, measured_at(origin, row));
+        turn_pair_by(&mut rows[row], turn, origin, row);
     }
 }
 
@@ -166,9 +166,29 @@ fn take_letter<A: Allocator + Copy>(
     word.letter(qubit)
 }
 
-// Few qubits are measured, so that mostly the letter stands as a constant.
+/// Turns the pair of a qubit by the turn of a letter that was measured.
 #[inline(always)]
-pub(crate) fn turn_pair<A: Allocator + Copy>(
+pub(crate) fn turn_pair_by<A: Allocator + Copy>(
+    pair: &mut Pair<A>,
+    turn: &Word<A>,
+    origin: Origin,
+    qubit: usize,
+)
+    requires inside { origin.pivot < length turn.now.letters }
+    requires size { HasLength (length turn.now.letters) pair.old }
+    requires clashes { TurnsAt (measured_letter origin qubit) origin.pivot turn.now pair.old }
+    ensures { pair.new ≡ (turned turn.now pair.old.0, turned turn.now pair.old.1) }
+{
+    if qubit == origin.qubit {
+        turn_pair(pair, turn, origin.pivot, origin.letter);
+    } else {
+        turn_pair(pair, turn, origin.pivot, Letter::I);
+    }
+}
+
+// Few qubits are measured: of other pairs, one bit of each word is looked at in place.
+#[inline(always)]
+fn turn_pair<A: Allocator + Copy>(
     pair: &mut Pair<A>,
     turn: &Word<A>,
     qubit: usize,
@@ -184,11 +204,25 @@ pub(crate) fn turn_pair<A: Allocator + Copy>(
             turn_row(&mut pair.0, turn, qubit, false);
             turn_row(&mut pair.1, turn, qubit, false);
         }
-        other => {
-            turn_row(&mut pair.0, turn, qubit, Letter::X.clashes(other));
-            turn_row(&mut pair.1, turn, qubit, Letter::Z.clashes(other));
-        }
+        other => turn_measured(pair, turn, qubit, other),
     }
+}
+
+// The same where a letter was measured. It is not inlined, so that the loop over the other pairs is small.
+#[inline(never)]
+fn turn_measured<A: Allocator + Copy>(
+    pair: &mut Pair<A>,
+    turn: &Word<A>,
+    qubit: usize,
+    measured: Letter,
+)
+    requires inside { qubit < length turn.now.letters }
+    requires size { HasLength (length turn.now.letters) pair.old }
+    requires clashes { TurnsAt measured qubit turn.now pair.old }
+    ensures { pair.new ≡ (turned turn.now pair.old.0, turned turn.now pair.old.1) }
+{
+    turn_row(&mut pair.0, turn, qubit, Letter::X.clashes(measured));
+    turn_row(&mut pair.1, turn, qubit, Letter::Z.clashes(measured));
 }
 
 #[inline(always)]

@@ -5,7 +5,7 @@ ghost use Rattle.tableau.specs.private.Encoding.{pair_at};
 ghost use Rattle.tableau.specs.private.EncodingSteps.{mapped};
 ghost use Rattle.tableau.specs.private.Waiting.{all_turned, measured_letter, CanTurn, IsSized};
 
-use crate::measure::turn_pair;
+use crate::measure::turn_pair_by;
 use crate::pairs::Pair;
 use pauli_word::{Letter, Word};
 use std::alloc::{AllocError, Allocator};
@@ -62,18 +62,6 @@ pub(crate) fn seems_dense<A: Allocator + Copy>(word: &Word<A>, n: usize) -> bool
     MANY <= seen
 }
 
-/// The letter that was measured at a qubit.
-#[inline(always)]
-pub(crate) fn measured_at(origin: Origin, qubit: usize) -> Letter
-    ensures { result ≡ measured_letter origin qubit }
-{
-    if qubit == origin.qubit {
-        origin.letter
-    } else {
-        Letter::I
-    }
-}
-
 /// Turns the pair of a qubit by one turn after another.
 pub(crate) fn turn_pair_by_all<A: Allocator + Copy>(
     pair: &mut Pair<A>,
@@ -84,7 +72,7 @@ pub(crate) fn turn_pair_by_all<A: Allocator + Copy>(
     ensures { pair.new ≡ (all_turned turns.now pair.old.0, all_turned turns.now pair.old.1) }
 {
     for turn in turns {
-        turn_pair(pair, &turn.0, turn.1.pivot, measured_at(turn.1, qubit));
+        turn_pair_by(pair, &turn.0, turn.1, qubit);
     }
 }
 
