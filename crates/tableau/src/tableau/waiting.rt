@@ -133,6 +133,7 @@ impl<A: Allocator + Copy> WaitingTableau<A> {
     }
 
     /// Measures a letter at a qubit, and answers the outcome. Where that is random, the turn of the measurement waits.
+    #[inline(always)]
     pub fn measure(&mut self, letter: Letter, qubit: usize, coin: bool) -> bool
         requires { qubit < row_count self.old.rows }
         ensures len { row_count self.new.rows ≡ row_count self.old.rows }
@@ -141,9 +142,22 @@ impl<A: Allocator + Copy> WaitingTableau<A> {
         ensures state { HasState self.new.rows
             (collapsed (lone_letter (row_count self.old.rows) qubit letter) coin (state_of self.old.rows)) }
     {
-        if let Some(outcome) = outcome_seen(&self.tableau, self.waiting, letter, qubit) {
-            return outcome;
+        match outcome_seen(&self.tableau, self.waiting, letter, qubit) {
+            Some(outcome) => outcome,
+            None => self.measure_unseen(letter, qubit, coin),
         }
+    }
+
+    // The same of an outcome that one look doesn't show. It stands apart, so that the look alone is short.
+    #[inline(never)]
+    fn measure_unseen(&mut self, letter: Letter, qubit: usize, coin: bool) -> bool
+        requires { qubit < row_count self.old.rows }
+        ensures len { row_count self.new.rows ≡ row_count self.old.rows }
+        ensures outcome { result
+            ≡ outcome (state_of self.old.rows) (lone_letter (row_count self.old.rows) qubit letter) coin }
+        ensures state { HasState self.new.rows
+            (collapsed (lone_letter (row_count self.old.rows) qubit letter) coin (state_of self.old.rows)) }
+    {
         let waiting = self.waiting;
         if !shall_wait(
             &self.tableau,
@@ -181,6 +195,7 @@ impl<A: Allocator + Copy> WaitingTableau<A> {
 
     /// Ends the reset of a qubit whose letter was measured: where the outcome is 1, applies the letter that turns it
     /// into 0.
+    #[inline(always)]
     pub fn reset_after(&mut self, letter: Letter, qubit: usize, outcome: bool)
         requires { qubit < row_count self.old.rows }
         ensures len { row_count self.new.rows ≡ row_count self.old.rows }
