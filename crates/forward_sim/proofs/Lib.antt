@@ -12,7 +12,6 @@ pub mod RunLoops
 pub mod RunRecords
 pub mod WalkedSteps
 pub mod StepLetters
-pub mod TakenSteps
 pub mod ExclusiveOrs
 pub mod TermWords
 pub mod WordsSaid

@@ -1,12 +1,15 @@
-ghost use Rattle.std.specs.Prelude.{◌≡◌, length, IfOk, IfErr};
+ghost use Rattle.std.specs.Prelude.{◌≡◌, ◌+◌, ℕ, Bool, List, length, slice_get, IfOk, IfErr, Some};
+ghost use Rattle.circuit_walk.specs.Named.{IsStepOf};
+ghost use Rattle.circuit_walk.specs.Steps.{listed};
 ghost use Rattle.step_model.specs.Faults.{memory_fault};
 ghost use Rattle.step_model.specs.Runs.{records_of};
+ghost use Rattle.forward_sim.specs.private.Takers.{IsRunning};
 
 use crate::machine::Machine;
 use crate::quiet::quiet_count;
 use crate::records::Records;
-use crate::steps::{collapse, collapse_word, feed_back, flip_happens, take_fault};
-use circuit_walk::{FaultName, Letters, Program, StepTaker, take_all};
+use crate::steps::take_step;
+use circuit_walk::{FaultName, Letters, Program, Step, StepTaker, take_all};
 use gate_table::Gate;
 use pauli_word::Letter;
 use std::alloc::{AllocError, Allocator};
@@ -38,6 +41,27 @@ struct OneRun<'r, 'c, A: Allocator + Copy> {
     faults: &'r [bool],
 }
 
+impl<'r, 'c, A: Allocator + Copy> OneRun<'r, 'c, A> {
+    // Takes the next step. Where its kind is known, nothing is left of the others.
+    #[inline(always)]
+    fn take(&mut self, program: &Program<'_, A>, step: Step<'_>)
+        requires named { IsStepOf program.now step }
+        requires next { (faults : List Bool) × (coins : List Bool) × (k : ℕ)
+            × IsRunning program.now.listing faults coins k self.old.faults.now self.old.machine
+            × (slice_get program.now.listing.steps k
+            ≡ Some (listed program.now.listing.qubits step)) }
+        ensures { (faults coins : List Bool)
+            → (k : ℕ)
+            → IsRunning program.now.listing faults coins k self.old.faults.now self.old.machine
+            → slice_get program.now.listing.steps k
+            ≡ Some (listed program.now.listing.qubits step.entry)
+            → IsRunning program.now.listing faults coins (k + 1) self.new.faults.now self.new.machine }
+    {
+        program.well_formed();
+        take_step(&mut self.machine, program, self.faults, step);
+    }
+}
+
 impl<'r, 'c, A: Allocator + Copy> StepTaker<A> for OneRun<'r, 'c, A> {
     ghost use Rattle.forward_sim.specs.private.Takers.{IsRunning};
 
@@ -45,20 +69,17 @@ impl<'r, 'c, A: Allocator + Copy> StepTaker<A> for OneRun<'r, 'c, A> {
 
     #[inline(always)]
     fn apply_one(&mut self, program: &Program<'_, A>, gate: Gate, q: u32) {
-        program.well_formed();
-        self.machine.apply_one(gate, q);
+        self.take(program, Step::One { gate, q });
     }
 
     #[inline(always)]
     fn apply_two(&mut self, program: &Program<'_, A>, gate: Gate, a: u32, b: u32) {
-        program.well_formed();
-        self.machine.apply_two(gate, a, b);
+        self.take(program, Step::Two { gate, a, b });
     }
 
     #[inline(always)]
     fn feed_back(&mut self, program: &Program<'_, A>, letter: Letter, q: u32, rec: u32) {
-        program.well_formed();
-        feed_back(&mut self.machine, letter, q, rec);
+        self.take(program, Step::Feedback { letter, q, rec });
     }
 
     #[inline(always)]
@@ -72,9 +93,15 @@ impl<'r, 'c, A: Allocator + Copy> StepTaker<A> for OneRun<'r, 'c, A> {
         inverted: bool,
         flip: Option<FaultName>,
     ) {
-        program.well_formed();
-        let changes = inverted ^ flip_happens(self.faults, flip);
-        collapse(&mut self.machine, letter, qubit, reset, rec, changes);
+        let step = Step::Collapse {
+            letter,
+            qubit,
+            rec,
+            reset,
+            inverted,
+            flip,
+        };
+        self.take(program, step);
     }
 
     #[inline(always)]
@@ -86,15 +113,18 @@ impl<'r, 'c, A: Allocator + Copy> StepTaker<A> for OneRun<'r, 'c, A> {
         inverted: bool,
         flip: Option<FaultName>,
     ) {
-        program.well_formed();
-        let changes = inverted ^ flip_happens(self.faults, flip);
-        collapse_word(&mut self.machine, letters, rec, changes);
+        let step = Step::CollapseWord {
+            letters,
+            rec,
+            inverted,
+            flip,
+        };
+        self.take(program, step);
     }
 
     #[inline(always)]
     fn fault(&mut self, program: &Program<'_, A>, name: FaultName, letters: Letters<'_>) {
-        program.well_formed();
-        take_fault(&mut self.machine, self.faults, name, letters);
+        self.take(program, Step::Fault { name, letters });
     }
 
     #[inline(always)]

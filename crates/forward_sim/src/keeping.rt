@@ -64,8 +64,8 @@ struct Keeping<A: Allocator + Copy> {
 }
 
 impl<A: Allocator + Copy> Keeping<A> {
-    // Takes the next step, and keeps the word that it replaced if it is a collapse. It stays apart from the loops over targets.
-    #[inline(never)]
+    // Takes the next step, and keeps the word that it replaced if it is a collapse.
+    #[inline(always)]
     fn keep(&mut self, program: &Program<'_, A>, step: Step<'_>)
         requires named { IsStepOf program.now step }
         requires next { (k : ℕ)
@@ -98,29 +98,21 @@ impl<A: Allocator + Copy> StepTaker<A> for Keeping<A> {
 
     #[inline(always)]
     fn apply_one(&mut self, program: &Program<'_, A>, gate: Gate, q: u32) {
-        program.well_formed();
-        if !self.failed {
-            self.walk.apply_one(gate, q);
-        }
+        self.keep(program, Step::One { gate, q });
     }
 
     #[inline(always)]
     fn apply_two(&mut self, program: &Program<'_, A>, gate: Gate, a: u32, b: u32) {
-        program.well_formed();
-        if !self.failed {
-            self.walk.apply_two(gate, a, b);
-        }
+        self.keep(program, Step::Two { gate, a, b });
     }
 
     #[inline(always)]
     fn feed_back(&mut self, program: &Program<'_, A>, letter: Letter, q: u32, rec: u32) {
-        program.well_formed();
-        if !self.failed {
-            self.walk.feed_back(letter, q, rec);
-        }
+        self.keep(program, Step::Feedback { letter, q, rec });
     }
 
-    #[inline(always)]
+    // What reads a word stays apart from the loops over targets.
+    #[inline(never)]
     fn collapse(
         &mut self,
         program: &Program<'_, A>,
@@ -142,7 +134,7 @@ impl<A: Allocator + Copy> StepTaker<A> for Keeping<A> {
         self.keep(program, step);
     }
 
-    #[inline(always)]
+    #[inline(never)]
     fn collapse_word(
         &mut self,
         program: &Program<'_, A>,
@@ -160,10 +152,9 @@ impl<A: Allocator + Copy> StepTaker<A> for Keeping<A> {
         self.keep(program, step);
     }
 
-    // It doesn't happen.
     #[inline(always)]
-    fn fault(&mut self, program: &Program<'_, A>, _name: FaultName, _letters: Letters<'_>) {
-        program.well_formed();
+    fn fault(&mut self, program: &Program<'_, A>, name: FaultName, letters: Letters<'_>) {
+        self.keep(program, Step::Fault { name, letters });
     }
 
     // No fault happens at all.
@@ -208,6 +199,7 @@ fn run_and_keep<A: Allocator + Copy>(
 
 // Takes a step, and keeps the word that it replaced if it is a collapse. Where there is no room for the words any more, it
 // doesn't look at them.
+#[inline(always)]
 fn keep_step<A: Allocator + Copy>(
     walk: &mut WalkingRun<A>,
     program: &Program<'_, A>,
@@ -224,13 +216,10 @@ fn keep_step<A: Allocator + Copy>(
         (StepIsKept program.now.listing.qubits (walking_run walk.old).state
         (listed program.now.listing.qubits step.entry) kept.old kept.new) }
 {
-    if !kept.is_whole() {
-        walk.go_past(program, step);
-        return Ok(());
+    if kept.is_whole() && step.is_collapse() {
+        walk.go_over(program, step);
+        return kept.push(walk.list());
     }
-    walk.go_over(program, step);
-    if step.is_collapse() {
-        kept.push(walk.list())?;
-    }
+    walk.go_past(program, step);
     Ok(())
 }

@@ -9,7 +9,8 @@ use crate::machine::Machine;
 use pauli_word::Letter;
 use std::alloc::Allocator;
 
-/// Measures a letter at a qubit, and answers the outcome. Records nothing.
+/// Measures a letter at a qubit, and answers the outcome. Records nothing. It stays apart from the loops over targets.
+#[inline(never)]
 pub(crate) fn measure_letter<A: Allocator + Copy>(
     machine: &mut Machine<'_, A>,
     letter: Letter,

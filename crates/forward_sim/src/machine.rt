@@ -138,6 +138,7 @@ impl<'c, A: Allocator + Copy> Machine<'c, A> {
     }
 
     /// Takes the coin of the next collapse: 0 where none is left.
+    #[inline(always)]
     pub(crate) fn take_coin(&mut self) -> bool
         ensures coin { result ≡ next_coin self.old.coins }
         ensures taken { self.new ≡ record self.old { coins = drop 1 self.old.coins } }
@@ -151,6 +152,7 @@ impl<'c, A: Allocator + Copy> Machine<'c, A> {
     }
 
     /// Where `reset`, ends the reset of a qubit whose letter was measured with this outcome.
+    #[inline(always)]
     pub(crate) fn correct(&mut self, letter: Letter, qubit: u32, reset: bool, seen: bool)
         requires { qubit < qubit_count self.old }
         ensures { ComesTo self.old self.new
@@ -173,6 +175,7 @@ impl<'c, A: Allocator + Copy> Machine<'c, A> {
     }
 
     /// Records a value, where there is a number for it.
+    #[inline(always)]
     pub(crate) fn keep(&mut self, number: Option<u32>, value: bool)
         requires { length self.old.records + (if is_some number then 1 else 0) ≤ self.old.room }
         ensures { self.new ≡ with_record number value self.old }

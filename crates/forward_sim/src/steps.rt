@@ -17,7 +17,7 @@ use circuit_walk::{FaultName, Letters, Program, Step};
 use pauli_word::Letter;
 use std::alloc::Allocator;
 
-/// Takes a step of a program in which these faults happen.
+/// Takes a step of a program in which these faults happen. Where the kind of the step is known, nothing is left of the others.
 #[inline(always)]
 pub(crate) fn take_step<A: Allocator + Copy>(
     machine: &mut Machine<'_, A>,
@@ -61,8 +61,8 @@ pub(crate) fn take_step<A: Allocator + Copy>(
 
 /// Measures a letter at a qubit, resets the qubit where `reset`, and records the outcome, inverted where `changes`, where
 /// there is a number for it.
-#[inline(never)]
-pub(crate) fn collapse<A: Allocator + Copy>(
+#[inline(always)]
+fn collapse<A: Allocator + Copy>(
     machine: &mut Machine<'_, A>,
     letter: Letter,
     qubit: u32,
@@ -82,6 +82,7 @@ pub(crate) fn collapse<A: Allocator + Copy>(
 
 // Ends the collapse of a letter at a qubit with this outcome: resets the qubit where `reset`, and records the outcome,
 // inverted where `changes`, where there is a number for it.
+#[inline(always)]
 fn end_collapse<A: Allocator + Copy>(
     machine: &mut Machine<'_, A>,
     letter: Letter,
@@ -103,7 +104,7 @@ fn end_collapse<A: Allocator + Copy>(
 
 /// Measures a Pauli product, and records the outcome, inverted where `changes`, where there is a number for it.
 #[inline(never)]
-pub(crate) fn collapse_word<A: Allocator + Copy>(
+fn collapse_word<A: Allocator + Copy>(
     machine: &mut Machine<'_, A>,
     letters: Letters<'_>,
     rec: Option<u32>,
@@ -122,7 +123,7 @@ pub(crate) fn collapse_word<A: Allocator + Copy>(
 
 /// Applies the letters of a fault, where it happens.
 #[inline(never)]
-pub(crate) fn take_fault<A: Allocator + Copy>(
+fn take_fault<A: Allocator + Copy>(
     machine: &mut Machine<'_, A>,
     faults: &[bool],
     name: FaultName,
@@ -143,7 +144,7 @@ pub(crate) fn take_fault<A: Allocator + Copy>(
 
 /// Applies a letter at a qubit, where a record is 1.
 #[inline(never)]
-pub(crate) fn feed_back<A: Allocator + Copy>(
+fn feed_back<A: Allocator + Copy>(
     machine: &mut Machine<'_, A>,
     letter: Letter,
     qubit: u32,
@@ -161,7 +162,7 @@ pub(crate) fn feed_back<A: Allocator + Copy>(
 }
 
 /// Whether the fault that flips a record happens, if there is one.
-pub(crate) fn flip_happens(faults: &[bool], flip: Option<FaultName>) -> bool
+fn flip_happens(faults: &[bool], flip: Option<FaultName>) -> bool
     ensures { result ≡ flip_happens faults.now (option_map number_of flip) }
 {
     match flip {

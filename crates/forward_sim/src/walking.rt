@@ -1,23 +1,17 @@
-ghost use Rattle.std.specs.Prelude.{◌≡◌, ◌≢◌, ◌<◌, [], false, length, slice_index_or, IfOk};
+ghost use Rattle.std.specs.Prelude.{◌≡◌, [], length, IfOk};
 ghost use Rattle.circuit_walk.specs.Steps.{listed};
-ghost use Rattle.gate_table.specs.Images.{arity_of};
-ghost use Rattle.gate_table.specs.WordImages.{preimage_at, preimage_at_two};
-ghost use Rattle.pauli_word.specs.States.{applied};
-ghost use Rattle.pauli_word.specs.Words.{lone_letter};
 ghost use Rattle.step_model.specs.Runs.{next, start};
 ghost use Rattle.forward_sim.specs.References.{entry_of, walking_qubits, walking_run, IsStepEntry};
 ghost use Rattle.forward_sim.specs.private.Kept.{terms_listed, WalksTo};
-ghost use Rattle.forward_sim.specs.private.Machines.{CanTake, in_state};
+ghost use Rattle.forward_sim.specs.private.Machines.{CanTake};
 ghost use Rattle.forward_sim.specs.SameRuns.{IsSameRun};
 
 use crate::following::read_replaced;
 use crate::last_word::LastWord;
 use crate::machine::Machine;
 use crate::records::Records;
-use crate::steps::{feed_back, take_step};
+use crate::steps::take_step;
 use circuit_walk::{Program, Step};
-use gate_table::Gate;
-use pauli_word::Letter;
 use std::alloc::{AllocError, Allocator};
 use std::marker::Model;
 
@@ -90,6 +84,7 @@ impl<A: Allocator + Copy> WalkingRun<A> {
     }
 
     /// Goes over a step, and says nothing of it.
+    #[inline(always)]
     pub(crate) fn go_past(&mut self, program: &Program<'_, A>, step: Step<'_>)
         requires { CanTake program.now step (walking_qubits self.old) (length self.old.records)
             self.old.room }
@@ -98,44 +93,6 @@ impl<A: Allocator + Copy> WalkingRun<A> {
             (listed program.now.listing.qubits step.entry) (walking_run self.old)) }
     {
         take_step(&mut self.machine, program, &[], step);
-    }
-
-    /// Goes over a gate of one qubit.
-    #[inline(always)]
-    pub(crate) fn apply_one(&mut self, gate: Gate, qubit: u32)
-        requires arity { arity_of gate ≡ 1 }
-        requires inside { qubit < walking_qubits self.old }
-        ensures { WalksTo self.old self.new
-            (in_state (walking_run self.old)
-            (λ p. (walking_run self.old).state (preimage_at gate qubit p))) }
-    {
-        self.machine.apply_one(gate, qubit);
-    }
-
-    /// Goes over a gate of two qubits.
-    #[inline(always)]
-    pub(crate) fn apply_two(&mut self, gate: Gate, a: u32, b: u32)
-        requires arity { arity_of gate ≡ 2 }
-        requires first_inside { a < walking_qubits self.old }
-        requires second_inside { b < walking_qubits self.old }
-        requires differ { a ≢ b }
-        ensures { WalksTo self.old self.new
-            (in_state (walking_run self.old)
-            (λ p. (walking_run self.old).state (preimage_at_two gate a b p))) }
-    {
-        self.machine.apply_two(gate, a, b);
-    }
-
-    /// Goes over a letter that is applied where a record is 1.
-    #[inline(always)]
-    pub(crate) fn feed_back(&mut self, letter: Letter, qubit: u32, rec: u32)
-        requires { qubit < walking_qubits self.old }
-        ensures { WalksTo self.old self.new
-            (in_state (walking_run self.old)
-            (applied (slice_index_or self.old.records rec false)
-            (lone_letter (walking_qubits self.old) qubit letter) (walking_run self.old).state)) }
-    {
-        feed_back(&mut self.machine, letter, qubit, rec);
     }
 
     /// The word that the last collapse replaced, as a list of numbers. It stands for no word where the outcome wasn't random.
