@@ -10,18 +10,18 @@ use Rattle.rand_pcg.specs.Lcg.{Lcg}
 use Rattle.bit_rows.specs.Lanes.{lane, lane_bit}
 use Rattle.bit_rows.proofs.LaneLaws.{lane_bit-zero}
 use Rattle.forward_sim.specs.Drawn.{after_words, word_at}
-use Rattle.forward_sim.specs.private.AllLanes.{AllDrawn, LanesDrawn, generator_at, nobody}
+use Rattle.forward_sim.specs.private.AllLanes.{AllDrawn, DrawnUpTo, LanesDrawn, generator_at, nobody}
 use Rattle.forward_sim.specs.private.LaneDraws.{DrawsInto}
 use Rattle.forward_sim.proofs.RunLemmas.{word_behind}
 use Rattle.forward_sim.proofs.WordLemmas.{after_words-add, after_words-none}
 
 -- generators that gave words
 
-pub generators_none : (generators : List Lcg) → map (after_words 0) generators ≡ generators
+generators_none : (generators : List Lcg) → map (after_words 0) generators ≡ generators
 generators_none [] = refl
 generators_none (g ∷ generators) = ap₂ (λ a b. a ∷ b) (after_words-none g) (generators_none generators)
 
-pub generators_more : (m n : ℕ) (generators : List Lcg) → map (after_words n) (map (after_words m) generators) ≡ map (after_words (m + n)) generators
+generators_more : (m n : ℕ) (generators : List Lcg) → map (after_words n) (map (after_words m) generators) ≡ map (after_words (m + n)) generators
 generators_more m n [] = refl
 generators_more m n (g ∷ generators) = ap₂ (λ a b. a ∷ b) (sym (after_words-add m n g)) (generators_more m n generators)
 
@@ -94,8 +94,12 @@ all_passed n generators left words zeros taken =
 
 -- piece after piece
 
-pub lanes_none : (hits : ℕ → ℕ → Bool) (generators : List Lcg) (words : List ℕ) → LanesDrawn 0 hits generators words
-lanes_none hits generators words = record { drawn = λ j k h l. absurd (omega arith); idle = λ j k h l. absurd (omega arith) }
+pub none_drawn : (hits : ℕ → ℕ → Bool) (generators : List Lcg) (words : List ℕ) → DrawnUpTo 0 (length words) hits generators words generators
+none_drawn hits generators words = record {
+  size = refl;
+  lanes = record { drawn = λ j k h l. absurd (omega arith); idle = λ j k h l. absurd (omega arith) };
+  taken = sym (generators_none generators);
+}
 
 pub all_like : (n : ℕ) (hits other : ℕ → ℕ → Bool) (generators left : List Lcg) (words : List ℕ) → ((k w : ℕ) → k < n → hits k w ≡ other k w)
     → AllDrawn n hits generators words left → AllDrawn n other generators words left
@@ -111,12 +115,12 @@ all_like n hits other generators left words same all =
     }
 
 -- a list in which a piece was written over
-pub record IsSpliced (at n : ℕ) (old piece new : List ℕ) : Type 0 where
+record IsSpliced (at n : ℕ) (old piece new : List ℕ) : Type 0 where
   pub size : length new ≡ length old
   pub front : (k : ℕ) → k < at → get_or new k 0 ≡ get_or old k 0
   pub inside : (k : ℕ) → k < n → get_or new (at + k) 0 ≡ get_or piece k 0
 
-pub spliced : (at k n : ℕ) (old piece : List ℕ) → k ≡ n → length piece ≡ n → at + n ≤ length old → IsSpliced at n old piece (put_mid at k old piece)
+spliced : (at k n : ℕ) (old piece : List ℕ) → k ≡ n → length piece ≡ n → at + n ≤ length old → IsSpliced at n old piece (put_mid at k old piece)
 spliced at k n old piece is long within =
     let front : length (take at old) ≡ at = length-take-le at old (omega arith) in
     let rest = drop k (drop at old) in
@@ -136,7 +140,7 @@ lanes_front n hits generators piece rest long lanes =
       idle = λ j k h l. ap (lane_bit j) (get_or_append_left piece rest 0 k (omega (arith, l, long))) ∙ lanes.idle j k h l;
     }
 
-pub piece_more : (at n : ℕ) (hits later all : ℕ → ℕ → Bool) (generators then left : List Lcg) (old piece new : List ℕ) → IsSpliced at n old piece new
+piece_more : (at n : ℕ) (hits later all : ℕ → ℕ → Bool) (generators then left : List Lcg) (old piece new : List ℕ) → IsSpliced at n old piece new
     → ((k w : ℕ) → k < at → hits k w ≡ all k w) → ((k w : ℕ) → k < n → later k w ≡ all (at + k) w)
     → LanesDrawn at hits generators old → then ≡ map (after_words at) generators → AllDrawn n later then piece left
     → LanesDrawn (at + n) all generators new
@@ -171,9 +175,27 @@ piece_more at n hits later all generators then left old piece new spliced same s
           (cases_lt k at);
     }
 
-pub generators_on : (at n : ℕ) (generators then left : List Lcg) → then ≡ map (after_words at) generators → left ≡ map (after_words n) then → left ≡ map (after_words (at + n)) generators
-generators_on at n generators then left taken more =
-    more ∙ (ap (map (after_words n)) taken ∙ generators_more at n generators)
+-- behind what is drawn a piece is
+pub piece_drawn : {at n total : ℕ} {hits later : ℕ → ℕ → Bool} {generators then left : List Lcg} {old piece : List ℕ} (all : ℕ → ℕ → Bool) (k : ℕ) → k ≡ n → at + n ≤ total
+    → DrawnUpTo at total hits generators old then → DrawnUpTo n n later then piece left
+    → ((i w : ℕ) → i < at → hits i w ≡ all i w) → ((i w : ℕ) → i < n → later i w ≡ all (at + i) w)
+    → DrawnUpTo (at + n) total all generators (put_mid at k old piece) left
+piece_drawn {at = at} {n = n} {hits = hits} {later = later} {generators = generators} {then = then} {left = left} {old = old} {piece = piece} all k is within before after same same_later =
+    let placed = spliced at k n old piece is after.size (omega (arith, before.size, within)) in
+    record {
+      size = placed.size ∙ before.size;
+      lanes = piece_more at n hits later all generators then left old piece _ placed same same_later before.lanes before.taken after;
+      taken = after.taken ∙ (ap (map (after_words n)) before.taken ∙ generators_more at n generators);
+    }
+
+-- which is a part of the words
+pub part_drawn : {at total : ℕ} {hits later : ℕ → ℕ → Bool} {generators then left : List Lcg} {old piece : List ℕ} (all : ℕ → ℕ → Bool) (n k : ℕ) → k ≡ n → at + n ≤ total
+    → DrawnUpTo at total hits generators old then → AllDrawn (length (take k (drop at old))) later then piece left
+    → ((i w : ℕ) → i < at → hits i w ≡ all i w) → ((i w : ℕ) → i < n → later i w ≡ all (at + i) w)
+    → DrawnUpTo (at + n) total all generators (put_mid at k old piece) left
+part_drawn {at = at} {later = later} {then = then} {left = left} {old = old} {piece = piece} all n k is within before after same same_later =
+    let long : length (take k (drop at old)) ≡ n = length-take-le k (drop at old) (omega (arith, length-drop at old, before.size, is, within)) ∙ is in
+    piece_drawn all k is within before (subst (λ m. AllDrawn m later then piece left) long after) same same_later
 
 -- what a lane then is
 pub lane_is : (j n : ℕ) (truths : ℕ → Bool) (words : List ℕ) → length words ≡ n → ((k : ℕ) → k < n → lane_bit j (get_or words k 0) ≡ truths k)

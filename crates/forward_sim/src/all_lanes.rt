@@ -3,6 +3,7 @@ ghost use Rattle.std.specs.Prelude.{◌≤◌, false, length};
 ghost use Rattle.forward_sim.specs.private.AllLanes.{AllDrawn};
 
 use crate::lane_draws::draw_lane;
+use crate::runs::LONGEST;
 use crate::word_draw::WordDraw;
 use rand_pcg::Pcg64;
 
@@ -20,6 +21,22 @@ pub(crate) fn draw_into_all<D: WordDraw + Copy>(
     words.fill(0);
     for lane in 0..generators.len() {
         draw_lane(words, draw, lane as u32, &mut generators[lane]);
+    }
+}
+
+/// The same, piece by piece: one is drawn into all lanes before the next one is, so that it stays in a near cache.
+pub(crate) fn draw_pieces<D: WordDraw + Copy>(words: &mut [u64], draw: &D, generators: &mut [Pcg64])
+    requires fits { D.fits draw.now (length words.old) }
+    requires few { length generators.old ≤ 64 }
+    ensures { AllDrawn (length words.old) (D.hits draw.now) generators.old words.new
+        generators.new }
+{
+    let mut start = 0;
+    while start < words.len() {
+        let end = start + LONGEST.min(words.len() - start);
+        let part = draw.part(start, end);
+        draw_into_all(&mut words[start..end], &part, generators);
+        start = end;
     }
 }
 

@@ -1,9 +1,8 @@
 //! Coins, drawn into all lanes.
-ghost use Rattle.std.specs.Prelude.{◌≡◌, ◌==◌, ◌%◌, ◌≤◌, length};
+ghost use Rattle.std.specs.Prelude.{◌≤◌, length};
 ghost use Rattle.forward_sim.specs.private.AllLanes.{AllDrawn, coin_hits};
 
-use crate::all_lanes::{draw_into_all, pass_over};
-use crate::runs::LONGEST;
+use crate::all_lanes::{draw_pieces, pass_over};
 use crate::span::Span;
 use crate::word_draw::CoinDraw;
 use rand_pcg::Pcg64;
@@ -16,21 +15,7 @@ pub(crate) fn draw_coins(coins: &mut [u64], passed: Span, generators: &mut [Pcg6
     ensures { AllDrawn (length coins.old) (coin_hits passed) generators.old coins.new
         generators.new }
 {
-    toss_coins(&mut coins[..passed.start], generators);
+    draw_pieces(&mut coins[..passed.start], &CoinDraw, generators);
     pass_over(&mut coins[passed.start..passed.end], generators);
-    toss_coins(&mut coins[passed.end..], generators);
-}
-
-// Those of some collapses, piece by piece.
-fn toss_coins(coins: &mut [u64], generators: &mut [Pcg64])
-    requires { length generators.old ≤ 64 }
-    ensures { AllDrawn (length coins.old) (λ _ word. word % 2 == 1) generators.old coins.new
-        generators.new }
-{
-    let mut start = 0;
-    while start < coins.len() {
-        let end = start + LONGEST.min(coins.len() - start);
-        draw_into_all(&mut coins[start..end], &CoinDraw, generators);
-        start = end;
-    }
+    draw_pieces(&mut coins[passed.end..], &CoinDraw, generators);
 }

@@ -1,13 +1,11 @@
-//! Faults, drawn into all lanes. A piece of the words is drawn into all of them before the next one is, so that it stays in a near
-//! cache.
-ghost use Rattle.std.specs.Prelude.{◌≡◌, ◌≤◌, length, map};
-ghost use Rattle.forward_sim.specs.Drawn.{after_words};
-ghost use Rattle.forward_sim.specs.private.AllLanes.{AllDrawn, LanesDrawn, fault_hits};
-ghost use Rattle.forward_sim.specs.private.BoundRuns.{bounds_above, bounds_in, bounds_of_run};
+//! Faults, drawn into all lanes: those of runs of equal bounds, and then the others, piece by piece.
+ghost use Rattle.std.specs.Prelude.{◌≡◌, ◌≤◌, length};
+ghost use Rattle.forward_sim.specs.private.AllLanes.{AllDrawn, DrawnUpTo, fault_hits};
+ghost use Rattle.forward_sim.specs.private.BoundRuns.{bounds_in, bounds_of_run};
 
-use crate::all_lanes::{draw_into_all, pass_over};
+use crate::all_lanes::{draw_into_all, draw_pieces, pass_over};
 use crate::fault_bounds::FaultBounds;
-use crate::runs::{BoundRun, LONGEST, word_below};
+use crate::runs::{BoundRun, word_below};
 use crate::sieve::{Sieve, SievedDraw};
 use crate::word_draw::{EachDraw, EqualDraw};
 use rand_pcg::Pcg64;
@@ -25,7 +23,10 @@ pub(crate) fn draw_faults<A: Allocator + Copy>(
         generators.new }
 {
     let start = draw_runs(faults, bounds.runs.as_slice(), &bounds.sieve, generators);
-    draw_each(&mut faults[start..], bounds.greatest.as_slice(), generators);
+    let each = EachDraw {
+        greatest: bounds.greatest.as_slice(),
+    };
+    draw_pieces(&mut faults[start..], &each, generators);
 }
 
 // Those of some runs, which are the first ones. Returns how many there are.
@@ -38,10 +39,8 @@ fn draw_runs(
     requires fits { length (bounds_in runs.now) ≤ length faults.old }
     requires few { length generators.old ≤ 64 }
     ensures count { result ≡ length (bounds_in runs.now) }
-    ensures size { length faults.new ≡ length faults.old }
-    ensures lanes { LanesDrawn result (fault_hits (bounds_in runs.now)) generators.old faults.new }
-    ensures taken { generators.new
-        ≡ map (after_words (length (bounds_in runs.now))) generators.old }
+    ensures drawn { DrawnUpTo result (length faults.old) (fault_hits (bounds_in runs.now))
+        generators.old faults.new generators.new }
 {
     let mut start = 0;
     for r in 0..runs.len() {
@@ -72,23 +71,5 @@ fn draw_run(faults: &mut [u64], run: BoundRun, sieve: &Sieve, generators: &mut [
         draw_into_all(faults, &SievedDraw { equal, sieve }, generators);
     } else {
         draw_into_all(faults, &equal, generators);
-    }
-}
-
-// Those each of which has a greatest word of its own, with which it happens.
-fn draw_each(faults: &mut [u64], greatest: &[u64], generators: &mut [Pcg64])
-    requires fits { length faults.old ≡ length greatest.now }
-    requires few { length generators.old ≤ 64 }
-    ensures { AllDrawn (length greatest.now) (fault_hits (bounds_above greatest.now))
-        generators.old faults.new generators.new }
-{
-    let mut start = 0;
-    while start < greatest.len() {
-        let end = start + LONGEST.min(greatest.len() - start);
-        let each = EachDraw {
-            greatest: &greatest[start..end],
-        };
-        draw_into_all(&mut faults[start..end], &each, generators);
-        start = end;
     }
 }

@@ -54,6 +54,11 @@ impl<'a> WordDraw for SievedDraw<'a> {
     ghost hits = { λ draw k word. nat_lt word draw.equal.bound };
 
     #[inline(always)]
+    fn part(&self, _start: usize, _end: usize) -> Self {
+        *self
+    }
+
+    #[inline(always)]
     fn draw_one(&self, words: &mut [u64], k: usize, lane: u32, state: u128) {
         if self.sieve.passes(state) {
             strike_by_word(words, k, lane, self.equal, state);

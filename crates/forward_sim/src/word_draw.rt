@@ -1,5 +1,5 @@
 //! What the next words of a generator decide, a truth value each, in one lane of a list of words.
-ghost use Rattle.std.specs.Prelude.{ℕ, Bool, ◌+◌, ◌<◌, length};
+ghost use Rattle.std.specs.Prelude.{◌≡◌, ℕ, Bool, ◌+◌, ◌-◌, ◌<◌, ◌≤◌, length};
 ghost use Rattle.rand_pcg.specs.Pcg.{output_xsl_rr};
 ghost use Rattle.forward_sim.specs.private.BoundRuns.{IsGreatestBelow};
 ghost use Rattle.forward_sim.specs.private.LaneDraws.{DrawsInto};
@@ -13,6 +13,15 @@ pub(crate) trait WordDraw {
     ghost fits: { Self → ℕ → Type 0 };
     // Whether the lane of a word becomes 1, by the word that was made for it.
     ghost hits: { Self → ℕ → ℕ → Bool };
+
+    /// The draw into a part of the words.
+    fn part(&self, start: usize, end: usize) -> Self
+        requires order { start ≤ end }
+        requires within { (room : ℕ) × fits self.now room × (end ≤ room) }
+        ensures fits { fits result (end - start) }
+        ensures hits { (k word : ℕ)
+            → start + k < end
+            → hits result k word ≡ hits self.now (start + k) word };
 
     /// Draws into a word, by the word that the generator made in this state.
     fn draw_one(&self, words: &mut [u64], k: usize, lane: u32, state: u128)
@@ -39,6 +48,11 @@ impl WordDraw for EqualDraw {
     ghost hits = { λ draw k word. nat_lt word draw.bound };
 
     #[inline(always)]
+    fn part(&self, _start: usize, _end: usize) -> Self {
+        *self
+    }
+
+    #[inline(always)]
     fn draw_one(&self, words: &mut [u64], k: usize, lane: u32, state: u128) {
         strike(words, k, lane, word_of(state) <= self.most);
     }
@@ -59,6 +73,13 @@ impl<'a> WordDraw for EachDraw<'a> {
     ghost hits = { λ draw k word. nat_lt word (slice_index_or (bounds_above draw.greatest.now) k 0) };
 
     #[inline(always)]
+    fn part(&self, start: usize, end: usize) -> Self {
+        EachDraw {
+            greatest: &self.greatest[start..end],
+        }
+    }
+
+    #[inline(always)]
     fn draw_one(&self, words: &mut [u64], k: usize, lane: u32, state: u128) {
         strike(words, k, lane, word_of(state) <= self.greatest[k]);
     }
@@ -74,6 +95,11 @@ impl WordDraw for CoinDraw {
     ghost fits = { λ draw room. ⊤ };
 
     ghost hits = { λ draw k word. word % 2 == 1 };
+
+    #[inline(always)]
+    fn part(&self, _start: usize, _end: usize) -> Self {
+        *self
+    }
 
     #[inline(always)]
     fn draw_one(&self, words: &mut [u64], k: usize, lane: u32, state: u128) {

@@ -27,8 +27,12 @@ pub record LanesDrawn (n : ℕ) (hits : ℕ → ℕ → Bool) (generators : List
       → lane_bit j (slice_index words k) ≡ hits k (word_at (generator_at generators j) k)
   pub idle : (j k : ℕ) → length generators ≤ j → k < n → lane_bit j (slice_index words k) ≡ false
 
--- each of n words is drawn, by the next words of the generators, which are left there
-pub record AllDrawn (n : ℕ) (hits : ℕ → ℕ → Bool) (generators : List Lcg) (words : List ℕ) (left : List Lcg) : Type 0 where
-  pub size : length words ≡ n
+-- of `total` words the first n are drawn, by the next words of the generators, which are left there
+pub record DrawnUpTo (n total : ℕ) (hits : ℕ → ℕ → Bool) (generators : List Lcg) (words : List ℕ) (left : List Lcg) : Type 0 where
+  pub size : length words ≡ total
   pub lanes : LanesDrawn n hits generators words
   pub taken : left ≡ map (after_words n) generators
+
+-- all of n words are
+abbrev pub AllDrawn : ℕ → (ℕ → ℕ → Bool) → List Lcg → List ℕ → List Lcg → Type 0
+AllDrawn n hits generators words left = DrawnUpTo n n hits generators words left

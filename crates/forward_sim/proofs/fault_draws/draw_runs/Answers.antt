@@ -2,9 +2,9 @@
 use Rattle.std.proofs.Common.{rules, ◌≡◌, ◌+◌, ◌-◌, ◌≤◌, ◌++◌, [], length, get_or, take, refl, sym, ap, subst, ◌∙◌, arith}
 use borrow.Rule.Slice.PartMut.{put_mid}
 use Rattle.forward_sim.specs.declared.runs.BoundRun.{BoundRun}
-use Rattle.forward_sim.specs.private.AllLanes.{LanesDrawn, fault_hits}
+use Rattle.forward_sim.specs.private.AllLanes.{DrawnUpTo, fault_hits}
 use Rattle.forward_sim.specs.private.BoundRuns.{bounds_in, bounds_of_run}
-use Rattle.forward_sim.proofs.AllLaneLemmas.{generators_none, generators_on, lanes_none, piece_more, spliced}
+use Rattle.forward_sim.proofs.AllLaneLemmas.{none_drawn, piece_drawn}
 use Rattle.forward_sim.proofs.HitLemmas.{fault_behind, fault_front}
 use Rattle.forward_sim.proofs.RunLemmas.{run_counts, run_fits, runs_more}
 use Rattle.forward_sim.proofs.fault_draws.draw_runs.Goals as goal
@@ -16,9 +16,7 @@ pub loop-r-init : goal.loop-r-init
 loop-r-init c =
     record {
       start = refl;
-      size = refl;
-      lanes = lanes_none (fault_hits (bounds_in [])) c.args.generators.now c.args.faults.now;
-      taken = sym (generators_none c.args.generators.now);
+      drawn = none_drawn (fault_hits (bounds_in [])) c.args.generators.now c.args.faults.now;
     }
 
 pub overflow_add-end : goal.overflow_add-end
@@ -27,11 +25,11 @@ overflow_add-end c = record { fits = omega (arith, run_fits c.args.runs.now c.lo
 pub offset_bounds-faults-start : goal.offset_bounds-faults-start
 offset_bounds-faults-start c =
     let within = run_fits c.args.runs.now c.loop-r.r none c.loop-r-test.true in
-    search (rules, c.loop-r.invariant.start, c.loop-r.invariant.size, within, c.requires.fits)
+    search (rules, c.loop-r.invariant.start, c.loop-r.invariant.drawn.size, within, c.requires.fits)
 
 pub slice_bounds-draw_run-end : goal.slice_bounds-draw_run-end
 slice_bounds-draw_run-end c =
-    omega (arith, run_fits c.args.runs.now c.loop-r.r none c.loop-r-test.true, c.loop-r.invariant.start, c.loop-r.invariant.size, c.requires.fits)
+    omega (arith, run_fits c.args.runs.now c.loop-r.r none c.loop-r-test.true, c.loop-r.invariant.start, c.loop-r.invariant.drawn.size, c.requires.fits)
 
 pub loop-r-preserved : goal.loop-r-preserved
 loop-r-preserved c =
@@ -46,15 +44,11 @@ loop-r-preserved c =
     let more = runs_more runs r none c.loop-r-test.true in
     let front : length xs ≡ at = sym so_far.start in
     let new = c.draw_run.new in
-    let drawn = c.draw_run.ensures in
-    let room : at + run.count ≤ length c.loop-r.faults = omega (arith, run_fits runs r none c.loop-r-test.true, so_far.start, so_far.size, c.requires.fits) in
-    let placed = spliced at k run.count c.loop-r.faults new.faults (omega arith) drawn.size room in
+    let within : at + run.count ≤ length c.args.faults.now = omega (arith, run_fits runs r none c.loop-r-test.true, so_far.start, c.requires.fits) in
     record {
       start = ap (λ n. n + run.count) so_far.start ∙ sym (run_counts runs r none c.loop-r-test.true);
-      size = placed.size ∙ so_far.size;
-      lanes =
-          subst (λ bounds. LanesDrawn (at + run.count) (fault_hits bounds) c.args.generators.now (put_mid at k c.loop-r.faults new.faults)) more
-          (piece_more at run.count (fault_hits xs) (fault_hits ys) (fault_hits (xs ++ ys)) c.args.generators.now c.loop-r.generators new.generators c.loop-r.faults new.faults _ placed
-          (λ i w h. fault_front xs ys i w (omega (arith, h, front))) (λ i w h. fault_behind xs ys at i w front) so_far.lanes so_far.taken drawn);
-      taken = generators_on at run.count c.args.generators.now c.loop-r.generators new.generators so_far.taken drawn.taken;
+      drawn =
+          subst (λ bounds. DrawnUpTo (at + run.count) (length c.args.faults.now) (fault_hits bounds) c.args.generators.now (put_mid at k c.loop-r.faults new.faults) new.generators) more
+          (piece_drawn (fault_hits (xs ++ ys)) k (omega arith) within so_far.drawn c.draw_run.ensures
+          (λ i w h. fault_front xs ys i w (omega (arith, h, front))) (λ i w h. fault_behind xs ys at i w front));
     }
