@@ -1,5 +1,6 @@
 -- What a pass over a program's declarations answers: behind one declaration more, and behind all of them.
-use Rattle.std.proofs.Common.{◌≡◌, ◌+◌, ◌<◌, ◌-◌, ℕ, Bool, false, List, [], ◌∷◌, ◌++◌, length, map, get_or, not, set, inl, inr, refl, ap, ap₂, sym, ◌∙◌, arith, append-nil, length-append}
+use Rattle.std.proofs.Common.{◌≡◌, ◌+◌, ◌<◌, ◌-◌, ℕ, Bool, false, List, [], ◌∷◌, ◌++◌, length, map, get_or, not, set, inl, inr, refl, ap, ap₂, sym, subst, ◌∙◌, arith, append-nil, length-append}
+use Rattle.std.specs.Prelude.{All}
 use Rattle.std.proofs.Math.Bool.{beq}
 use Rattle.std.proofs.lemmas.Bool.{cases_eq, cases_lt}
 use Rattle.std.proofs.lemmas.List.{get_or-append-add, get_or-map, get_or-set_other, get_or-set_same, get_or_append_left, get_or_default, get_or_push, length-map, length-set, same_lists}
@@ -9,7 +10,7 @@ use Rattle.step_model.specs.Listing.{Listing}
 use Rattle.step_model.specs.Targets.{difference, parity, targets_of}
 use Rattle.circuit_walk.specs.Declarations.{AreDeclarations, Declared, Detector, Inclusion, IsNextDeclared, added_to, detectors_in}
 use Rattle.circuit_walk.proofs.DeclaredParts.{detectors-append, one_detector, no_detector, added-append, next_detector, next_observable, few_done, observable_is, added_here, added_elsewhere}
-use Rattle.forward_sim.specs.private.Answers.{AreAnswered, differ_in}
+use Rattle.forward_sim.specs.private.Answers.{AreAnswered, IsAnswering, differ_in}
 use Rattle.forward_sim.proofs.Differences.{differences-map}
 use Rattle.forward_sim.proofs.ExclusiveOrs.{exclusive_or_is}
 
@@ -38,6 +39,15 @@ one_more first second r left rest differ a b whole is a_is b_is so_far =
     ∙ ap (exclusive_or differ) (exclusive_or_middle x y (parity rest first) (parity rest second))
     ∙ ap (λ l. exclusive_or differ (differ_in first second l)) (sym is)
     ∙ so_far
+
+-- the records of a declaration are in both lists
+pub named_fit : {program : Listing} {first second : List Bool} {done : List Declared} {records reference : List Bool} {next detectors : ℕ} {answers : List Bool} (named : List ℕ)
+    → IsAnswering program first second done records reference next detectors answers → All (λ r. r < program.records) named
+    → (All (λ r. r < length records) named) × (All (λ r. r < length reference) named)
+named_fit named so_far fit = (
+  subst (λ m. All (λ r. r < m) named) (sym (ap length so_far.records_are ∙ so_far.records_fit)) fit,
+  subst (λ m. All (λ r. r < m) named) (sym (ap length so_far.reference_is ∙ so_far.reference_fits)) fit,
+)
 
 -- ---- what is answered
 

@@ -23,21 +23,10 @@ gate_of Z = gate.Z
 
 image : (l a : Letter) → image1 (inverse_of (gate_of l)) a ≡ (a, letters_clash l a)
 image I I = refl
-image I X = refl
-image I Y = refl
-image I Z = refl
 image X I = refl
-image X X = refl
-image X Y = refl
-image X Z = refl
 image Y I = refl
-image Y X = refl
-image Y Y = refl
-image Y Z = refl
 image Z I = refl
-image Z X = refl
-image Z Y = refl
-image Z Z = refl
+image l a = refl
 
 pub preimage_at-letter : (n : ℕ) (l : Letter) (q : ℕ) (p : Signed) → length p.letters ≡ n → q < n → preimage_at (gate_of l) q p ≡ with_sign_changed (anticommute p.letters (lone_letter n q l)) p
 preimage_at-letter n l q p size inside =

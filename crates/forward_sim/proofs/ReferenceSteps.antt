@@ -9,7 +9,7 @@ use Rattle.pauli_word.specs.States.{State, outcome, collapsed, is_decided}
 use Rattle.pauli_word.specs.Words.{signed, lone_letter}
 use Rattle.step_model.specs.declared.step.Term.{Term}
 use Rattle.step_model.specs.Frames.{zero_coins}
-use Rattle.step_model.specs.Listing.{Listing, ListedStep, One, Two, Collapse, Fault, Feedback, measured_word, word_of_terms}
+use Rattle.step_model.specs.Listing.{Listing, ListedStep, Collapse, measured_word, word_of_terms}
 use Rattle.step_model.specs.Runs.{RunState, start, next, next_coin, after_collapse, corrected, correction, records_of, run_from}
 use Rattle.step_model.specs.WellFormed.{IsWellFormed, step_fits}
 use Rattle.step_model.proofs.StateIsGroup.{length-measured}
@@ -76,24 +76,15 @@ same-entry n s t w (Some terms) same size is =
 
 pub same-entries : (program : Listing) (steps : List ListedStep) (m k : RunState) (replaced : List (Option (List Term))) → list_all (step_fits program) steps ≡ true → IsSameRun program.qubits m k → AreEntries program steps m replaced → AreEntries program steps k replaced
 same-entries program [] m k replaced fits same h = h
-same-entries program (One g q ∷ steps) m k replaced fits same h =
-    let parts = and_parts (step_fits program (One g q)) (list_all (step_fits program) steps) fits in
-    same-entries program steps (next program [] (One g q) m) (next program [] (One g q) k) replaced parts.1 (same-next program [] (One g q) m k parts.0 same) h
-same-entries program (Two g a b ∷ steps) m k replaced fits same h =
-    let parts = and_parts (step_fits program (Two g a b)) (list_all (step_fits program) steps) fits in
-    same-entries program steps (next program [] (Two g a b) m) (next program [] (Two g a b) k) replaced parts.1 (same-next program [] (Two g a b) m k parts.0 same) h
 same-entries program (Collapse c r ∷ steps) m k [] fits same h = h
 same-entries program (Collapse c r ∷ steps) m k (entry ∷ replaced) fits same h =
     let parts = and_parts (step_fits program (Collapse c r)) (list_all (step_fits program) steps) fits in (
       same-entry program.qubits m.state k.state (measured_word program.qubits c) entry same.state (length-measured program c r parts.0) h.0,
       same-entries program steps (next program [] (Collapse c r) m) (next program [] (Collapse c r) k) replaced parts.1 (same-next program [] (Collapse c r) m k parts.0 same) h.1,
     )
-same-entries program (Fault f ∷ steps) m k replaced fits same h =
-    let parts = and_parts (step_fits program (Fault f)) (list_all (step_fits program) steps) fits in
-    same-entries program steps (next program [] (Fault f) m) (next program [] (Fault f) k) replaced parts.1 (same-next program [] (Fault f) m k parts.0 same) h
-same-entries program (Feedback w r ∷ steps) m k replaced fits same h =
-    let parts = and_parts (step_fits program (Feedback w r)) (list_all (step_fits program) steps) fits in
-    same-entries program steps (next program [] (Feedback w r) m) (next program [] (Feedback w r) k) replaced parts.1 (same-next program [] (Feedback w r) m k parts.0 same) h
+same-entries program (step ∷ steps) m k replaced fits same h =
+    let parts = and_parts (step_fits program step) (list_all (step_fits program) steps) fits in
+    same-entries program steps (next program [] step m) (next program [] step k) replaced parts.1 (same-next program [] step m k parts.0 same) h
 
 -- coins that aren't there are coins that are 0
 abbrev with_coins : List Bool → RunState → RunState
@@ -101,22 +92,16 @@ with_coins coins m = record m { coins = coins }
 
 zero_records : (program : Listing) (steps : List ListedStep) (count : ℕ) (m : RunState) → (run_from program [] steps (with_coins [] m)).records ≡ (run_from program [] steps (with_coins (replicate count false) m)).records
 zero_records program [] count m = refl
-zero_records program (One g q ∷ steps) count m = zero_records program steps count (next program [] (One g q) m)
-zero_records program (Two g a b ∷ steps) count m = zero_records program steps count (next program [] (Two g a b) m)
 zero_records program (Collapse c r ∷ steps) zero m = refl
 zero_records program (Collapse c r ∷ steps) (suc count) m = zero_records program steps count (next program [] (Collapse c r) (with_coins [] m))
-zero_records program (Fault f ∷ steps) count m = zero_records program steps count (next program [] (Fault f) m)
-zero_records program (Feedback w r ∷ steps) count m = zero_records program steps count (next program [] (Feedback w r) m)
+zero_records program (step ∷ steps) count m = zero_records program steps count (next program [] step m)
 
 zero_entries : (program : Listing) (steps : List ListedStep) (count : ℕ) (m : RunState) (replaced : List (Option (List Term))) → AreEntries program steps (with_coins [] m) replaced → AreEntries program steps (with_coins (replicate count false) m) replaced
 zero_entries program [] count m replaced h = h
-zero_entries program (One g q ∷ steps) count m replaced h = zero_entries program steps count (next program [] (One g q) m) replaced h
-zero_entries program (Two g a b ∷ steps) count m replaced h = zero_entries program steps count (next program [] (Two g a b) m) replaced h
 zero_entries program (Collapse c r ∷ steps) zero m replaced h = h
 zero_entries program (Collapse c r ∷ steps) (suc count) m [] h = h
 zero_entries program (Collapse c r ∷ steps) (suc count) m (entry ∷ replaced) h = (h.0, zero_entries program steps count (next program [] (Collapse c r) (with_coins [] m)) replaced h.1)
-zero_entries program (Fault f ∷ steps) count m replaced h = zero_entries program steps count (next program [] (Fault f) m) replaced h
-zero_entries program (Feedback w r ∷ steps) count m replaced h = zero_entries program steps count (next program [] (Feedback w r) m) replaced h
+zero_entries program (step ∷ steps) count m replaced h = zero_entries program steps count (next program [] step m) replaced h
 
 pub keeps_at_start : (program : Listing) (m : RunState) (kept : List (Option (List Term))) → IsWellFormed program → IsSameRun program.qubits m (start []) → kept ≡ [] → KeepsRest program 0 m kept
 keeps_at_start program m kept well_formed same none rest h =
@@ -130,16 +115,13 @@ record Behind (program : Listing) (step : ListedStep) (steps : List ListedStep) 
   pub joined : old ++ all ≡ new ++ rest
 
 behind : (program : Listing) (step : ListedStep) (steps : List ListedStep) (m : RunState) (old new rest : List (Option (List Term))) → StepKeeps program.qubits m.state step old new → AreEntries program steps (next program [] step m) rest → Behind program step steps m old new rest
-behind program (One g q) steps m old new rest keeps h = record { all = rest; kept = h; joined = ap (λ o. o ++ rest) (sym keeps) }
-behind program (Two g a b) steps m old new rest keeps h = record { all = rest; kept = h; joined = ap (λ o. o ++ rest) (sym keeps) }
 behind program (Collapse c r) steps m old new rest keeps h =
     record {
       all = keeps.0 ∷ rest;
       kept = (keeps.2, h);
       joined = sym (ap (λ o. o ++ rest) keeps.1 ∙ append_assoc old (keeps.0 ∷ []) rest);
     }
-behind program (Fault f) steps m old new rest keeps h = record { all = rest; kept = h; joined = ap (λ o. o ++ rest) (sym keeps) }
-behind program (Feedback w r) steps m old new rest keeps h = record { all = rest; kept = h; joined = ap (λ o. o ++ rest) (sym keeps) }
+behind program step steps m old new rest keeps h = record { all = rest; kept = h; joined = ap (λ o. o ++ rest) (sym keeps) }
 
 pub keeps_after_step : (program : Listing) (place further : ℕ) (step : ListedStep) (m after : RunState) (old new : List (Option (List Term))) → IsWellFormed program → drop place program.steps ≡ step ∷ drop further program.steps → MakesRest program [] [] place m → IsSameRun program.qubits after (next program [] step m) → StepKeeps program.qubits m.state step old new → KeepsRest program place m old → KeepsRest program further after new
 keeps_after_step program place further step m after old new well_formed left makes same keeps so_far rest h =

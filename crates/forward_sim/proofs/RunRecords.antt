@@ -4,7 +4,7 @@ use Rattle.std.specs.Prelude.{Some, None}
 use Rattle.std.specs.List.{list_all}
 use Rattle.std.proofs.lemmas.Bool.{and_parts}
 use Rattle.std.proofs.lemmas.List.FromFn.{length-range_with_len}
-use Rattle.step_model.specs.Listing.{Listing, ListedStep, One, Two, Collapse, Fault, Feedback, step_records}
+use Rattle.step_model.specs.Listing.{Listing, ListedStep, Collapse, step_records}
 use Rattle.step_model.specs.Runs.{RunState, start, next, run_from, records_of}
 use Rattle.step_model.specs.WellFormed.{IsWellFormed, records_made, step_fits}
 use Rattle.step_model.proofs.StateIsGroup.{list_all-pass}
@@ -13,12 +13,9 @@ use Rattle.forward_sim.specs.private.Along.{MakesRest}
 use Rattle.forward_sim.proofs.SameStates.{same-run_from}
 
 pub length-next : (program : Listing) (faults : List Bool) (step : ListedStep) (m : RunState) → length (next program faults step m).records ≡ length m.records + length (step_records step)
-length-next program faults (One g q) m = omega arith
-length-next program faults (Two g a b) m = omega arith
 length-next program faults (Collapse c None) m = omega arith
 length-next program faults (Collapse c (Some r)) m = length-append m.records _
-length-next program faults (Fault f) m = omega arith
-length-next program faults (Feedback w r) m = omega arith
+length-next program faults step m = omega arith
 
 pub length-run_from : (program : Listing) (faults : List Bool) (steps : List ListedStep) (m : RunState) → length (run_from program faults steps m).records ≡ length m.records + length (records_made steps)
 length-run_from program faults [] m = omega arith

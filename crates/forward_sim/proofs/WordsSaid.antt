@@ -8,7 +8,7 @@ use Rattle.pauli_word.specs.States.{State, outcome, collapsed}
 use Rattle.pauli_word.specs.Words.{Signed}
 use Rattle.step_model.specs.declared.step.Term.{Term}
 use Rattle.step_model.specs.Frames.{zero_coins}
-use Rattle.step_model.specs.Listing.{Listing, ListedStep, One, Two, Collapse, Fault, Feedback, Measured, Recorded, measured_word, step_records}
+use Rattle.step_model.specs.Listing.{Listing, ListedStep, Collapse, Measured, Recorded, measured_word, step_records}
 use Rattle.step_model.specs.Runs.{RunState, start, next, next_coin, corrected, correction}
 use Rattle.step_model.specs.WellFormed.{IsWellFormed, collapse_count, records_made, step_fits}
 use Rattle.step_model.proofs.StateIsGroup.{length-measured}
@@ -21,14 +21,11 @@ use Rattle.forward_sim.proofs.SameStates.{same-next}
 -- the list says something of each collapse
 pub length-entries : (program : Listing) (steps : List ListedStep) (m : RunState) (replaced : List (Option (List Term))) → AreEntries program steps m replaced → length replaced ≡ collapse_count steps
 length-entries program [] m replaced entries = ap length entries
-length-entries program (One g q ∷ steps) m replaced entries = let rest = length-entries program steps _ replaced entries in omega (arith, rest)
-length-entries program (Two g a b ∷ steps) m replaced entries = let rest = length-entries program steps _ replaced entries in omega (arith, rest)
 length-entries program (Collapse c r ∷ steps) m [] entries = absurd entries
 length-entries program (Collapse c r ∷ steps) m (entry ∷ replaced) entries =
     let rest = length-entries program steps _ replaced entries.1 in
     omega (arith, rest)
-length-entries program (Fault f ∷ steps) m replaced entries = let rest = length-entries program steps _ replaced entries in omega (arith, rest)
-length-entries program (Feedback w r ∷ steps) m replaced entries = let rest = length-entries program steps _ replaced entries in omega (arith, rest)
+length-entries program (step ∷ steps) m replaced entries = let rest = length-entries program steps _ replaced entries in omega (arith, rest)
 
 -- so it says something of the one that comes next
 some-left : (program : Listing) (m : RunState) (c : Measured) (r : Option Recorded) (rest : List ListedStep) (left : List (Option (List Term))) → AreEntries program (Collapse c r ∷ rest) m left → 0 < length left
@@ -41,15 +38,12 @@ below-drop [] (suc k) h = absurd (omega (arith, h))
 below-drop (x ∷ xs) (suc k) h = omega (arith, below-drop xs k h)
 
 pub over_kept : (program : Listing) (step : ListedStep) (rest : List ListedStep) (m : RunState) (k : ℕ) (replaced : List (Option (List Term))) → AreEntries program (step ∷ rest) m (drop k replaced) → GoneOver program step rest m k (Kept replaced)
-over_kept program (One g q) rest m k replaced h = record { said = λ e. cc; entry = tt; stand = h }
-over_kept program (Two g a b) rest m k replaced h = record { said = λ e. cc; entry = tt; stand = h }
 over_kept program (Collapse c r) rest m k replaced h =
     let below : k < length replaced = below-drop replaced k (some-left program m c r rest (drop k replaced) h) in
     let parts : IsEntry program.qubits m.state (measured_word program.qubits c) (get_or replaced k None) × AreEntries program rest (next program [] (Collapse c r) m) (drop (k + 1) replaced) =
     subst (AreEntries program (Collapse c r ∷ rest) m) (drop_more replaced k None below) h in
     record { said = λ e. below; entry = parts.0; stand = parts.1 }
-over_kept program (Fault f) rest m k replaced h = record { said = λ e. cc; entry = tt; stand = h }
-over_kept program (Feedback w r) rest m k replaced h = record { said = λ e. cc; entry = tt; stand = h }
+over_kept program step rest m k replaced h = record { said = λ e. cc; entry = tt; stand = h }
 
 zeros : (n i : ℕ) → get_or (replicate n false) i false ≡ false
 zeros zero i = refl
@@ -85,8 +79,6 @@ record IsAlike (m k : RunState) : Type 0 where
   pub coins : m.coins ≡ []
 
 alike : (program : Listing) (step : ListedStep) (m : RunState) → next_coin m.coins ≡ false → IsAlike (next program [] step (without_coins m)) (next program [] step m)
-alike program (One g q) m coin = record { state = λ p. refl; records = refl; coins = refl }
-alike program (Two g a b) m coin = record { state = λ p. refl; records = refl; coins = refl }
 alike program (Collapse c r) m coin =
     let w = measured_word program.qubits c in
     record {
@@ -94,8 +86,7 @@ alike program (Collapse c r) m coin =
       records = ap (λ b. (next program [] (Collapse c r) (record m { coins = b ∷ [] })).records) (sym coin);
       coins = refl;
     }
-alike program (Fault f) m coin = record { state = λ p. refl; records = refl; coins = refl }
-alike program (Feedback w r) m coin = record { state = λ p. refl; records = refl; coins = refl }
+alike program step m coin = record { state = λ p. refl; records = refl; coins = refl }
 
 zeros-behind : (coins : List Bool) → ((i : ℕ) → get_or coins i false ≡ false) → (i : ℕ) → get_or (drop 1 coins) i false ≡ false
 zeros-behind [] zeros i = refl
@@ -103,19 +94,13 @@ zeros-behind (x ∷ coins) zeros i = zeros (suc i)
 
 -- coins that are 0 stay so
 pub zeros_after : (program : Listing) (step : ListedStep) (m : RunState) → ((i : ℕ) → get_or m.coins i false ≡ false) → (i : ℕ) → get_or (next program [] step m).coins i false ≡ false
-zeros_after program (One g q) m zeros = zeros
-zeros_after program (Two g a b) m zeros = zeros
 zeros_after program (Collapse c r) m zeros = zeros-behind m.coins zeros
-zeros_after program (Fault f) m zeros = zeros
-zeros_after program (Feedback w r) m zeros = zeros
+zeros_after program step m zeros = zeros
 
 same_step_entry : (program : Listing) (s t : State) (step : ListedStep) (entry : Option (List Term)) → step_fits program step ≡ true → HoldSame program.qubits s t → IsStepEntry program.qubits s step entry → IsStepEntry program.qubits t step entry
-same_step_entry program s t (One g q) entry fits same is = tt
-same_step_entry program s t (Two g a b) entry fits same is = tt
 same_step_entry program s t (Collapse c r) entry fits same is =
     same-entry program.qubits s t (measured_word program.qubits c) entry same (length-measured program c r fits) is
-same_step_entry program s t (Fault f) entry fits same is = tt
-same_step_entry program s t (Feedback w r) entry fits same is = tt
+same_step_entry program s t step entry fits same is = tt
 
 -- it has gone over a step
 pub over_walked : (program : Listing) (step : ListedStep) (rest : List ListedStep) (m : RunState) (k : ℕ) (old new : Walking)

@@ -52,8 +52,9 @@ pub(crate) fn product_row<A: Allocator + Copy>(
 fn set_product<A: Allocator + Copy>(word: &mut Word<A>, letters: Letters<'_>)
     requires small { AreSmall letters }
     requires fit { TermsFit (length word.old.letters) (letters_in letters) }
-    ensures { word.new
+    ensures word { word.new
         ≡ signed (word_of_terms (length word.old.letters) (letters_in letters.entry)) false }
+    ensures len { length word.new.letters ≡ length word.old.letters }
 {
     word.clear();
     let mut left = letters;

@@ -1,18 +1,14 @@
 -- The word that is measured has a letter for each qubit.
-use Rattle.std.proofs.Common.{◌≡◌, length, sym, ap, subst, ◌∙◌}
+use Rattle.std.proofs.Common.{◌≡◌, sym, ap, subst, ◌∙◌}
 use Rattle.circuit_walk.specs.Letters.{letters_in}
 use Rattle.pauli_word.specs.Words.{Signed}
 use Rattle.step_model.specs.Listing.{word_of_terms}
-use Rattle.step_model.proofs.StepNumbers.{length-word_of_terms}
 use Rattle.tableau.specs.Rows.{Rows, row_count, NamesRandom}
 use Rattle.forward_sim.specs.private.Machines.{Running}
 use Rattle.forward_sim.proofs.products.product_row.Goals as goal
 
 pub random_row_of_word-requires : goal.random_row_of_word-requires
-random_row_of_word-requires g c =
-    ap (λ (w : Signed). length w.letters) c.set_product.ensures
-    ∙ length-word_of_terms (length c.machine.inside.word.letters) (letters_in c.args.letters)
-    ∙ c.machine.invariant
+random_row_of_word-requires g c = c.set_product.ensures.len ∙ c.machine.invariant
 
 pub returns-clause-row : goal.returns-clause-row
 returns-clause-row g c =
@@ -21,13 +17,10 @@ returns-clause-row g c =
     let row = c.random_row_of_word.result in
     let rows : old ≡ c.args.machine.now.rows = ap (λ (r : Running). r.rows) c.machine.view_is in
     let word : c.set_product.new.word.letters ≡ word_of_terms (row_count old) terms =
-    ap (λ (w : Signed). w.letters) c.set_product.ensures ∙ ap (λ n. word_of_terms n terms) c.machine.invariant in
+    ap (λ (w : Signed). w.letters) c.set_product.ensures.word ∙ ap (λ n. word_of_terms n terms) c.machine.invariant in
     subst (λ (r : Rows). NamesRandom r (word_of_terms (row_count r) terms) row) rows
     (subst (λ w. NamesRandom old w row) word c.random_row_of_word.ensures.row)
 
 pub invariant_of-machine : goal.invariant_of-machine
 invariant_of-machine g c =
-    ap (λ (w : Signed). length w.letters) c.set_product.ensures
-    ∙ length-word_of_terms (length c.machine.inside.word.letters) (letters_in c.args.letters)
-    ∙ c.machine.invariant
-    ∙ sym (ap row_count c.random_row_of_word.ensures.same)
+    c.set_product.ensures.len ∙ c.machine.invariant ∙ sym (ap row_count c.random_row_of_word.ensures.same)

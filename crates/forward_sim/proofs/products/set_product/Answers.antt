@@ -59,8 +59,8 @@ loop-term-preserved g c =
           (subst (λ ts. IsProductSoFar n ts terms before) c.in-Some.ensures.letters c.loop-term.invariant.product));
     }
 
-pub returns : goal.returns
-returns g c =
+pub returns-clause-word : goal.returns-clause-word
+returns-clause-word g c =
     let n = length c.args.word.now.letters in
     let terms = letters_in c.args.letters in
     let word = c.loop-term.word.letters in

@@ -1,25 +1,16 @@
 -- The next detector has the answer of its number.
-use Rattle.std.proofs.Common.{◌<◌, ◌+◌, length, ap, ap₂, subst, sym, ◌∙◌, arith}
-use Rattle.std.specs.Prelude.{All}
+use Rattle.std.proofs.Common.{◌+◌, ap, ap₂, sym, ◌∙◌, arith}
 use Rattle.circuit_walk.specs.NamedRecords.{records_in}
 use Rattle.forward_sim.specs.private.Answers.{differ_in}
 use Rattle.circuit_walk.proofs.DeclaredParts.{detector_fits, next_detector, one_detector}
-use Rattle.forward_sim.proofs.AnswerLemmas.{detector_answered}
+use Rattle.forward_sim.proofs.AnswerLemmas.{detector_answered, named_fit}
 use Rattle.forward_sim.proofs.difference.AnsweringDeclarationTaker.detector.Goals as goal
 
-pub differs-requires-clause-records_fit : goal.differs-requires-clause-records_fit
-differs-requires-clause-records_fit g c =
+pub differs-requires : goal.differs-requires
+differs-requires g c =
     let n = c.requires.next in
-    let so_far = n.2 in
-    subst (λ m. All (λ r. r < m) (records_in c.args.records)) (sym (ap length so_far.records_are ∙ so_far.records_fit))
-    (detector_fits c.args.program.now.listing n.1 (records_in c.args.records) n.3 c.well_formed-2.ensures)
-
-pub differs-requires-clause-reference_fit : goal.differs-requires-clause-reference_fit
-differs-requires-clause-reference_fit g c =
-    let n = c.requires.next in
-    let so_far = n.2 in
-    subst (λ m. All (λ r. r < m) (records_in c.args.records)) (sym (ap length so_far.reference_is ∙ so_far.reference_fits))
-    (detector_fits c.args.program.now.listing n.1 (records_in c.args.records) n.3 c.well_formed-2.ensures)
+    let fit = named_fit (records_in c.args.records) n.2 (detector_fits c.args.program.now.listing n.1 (records_in c.args.records) n.3 c.well_formed-2.ensures) in
+    record { records_fit = fit.0; reference_fit = fit.1 }
 
 pub index_mut-requires : goal.index_mut-requires
 index_mut-requires g c =

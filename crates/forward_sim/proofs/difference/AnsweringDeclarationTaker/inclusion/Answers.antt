@@ -1,28 +1,19 @@
 -- The observable is one of the program's, and is numbered behind the detectors.
-use Rattle.std.proofs.Common.{◌<◌, ◌+◌, false, length, ap, ap₂, subst, sym, ◌∙◌, arith}
-use Rattle.std.specs.Prelude.{All}
+use Rattle.std.proofs.Common.{◌<◌, ◌+◌, false, length, ap, ap₂, sym, ◌∙◌, arith}
 use Rattle.std.proofs.lemmas.List.{get_or_default}
 use Rattle.circuit_walk.specs.NamedRecords.{records_in}
 use Rattle.pauli_word.specs.Parity.{exclusive_or}
 use Rattle.forward_sim.specs.private.Answers.{differ_in}
 use Rattle.circuit_walk.proofs.DeclaredParts.{inclusion_fits, next_observable, no_detector}
-use Rattle.forward_sim.proofs.AnswerLemmas.{inclusion_answered}
+use Rattle.forward_sim.proofs.AnswerLemmas.{inclusion_answered, named_fit}
 use Rattle.forward_sim.proofs.ExclusiveOrs.{exclusive_or_is}
 use Rattle.forward_sim.proofs.difference.AnsweringDeclarationTaker.inclusion.Goals as goal
 
-pub differs-requires-clause-records_fit : goal.differs-requires-clause-records_fit
-differs-requires-clause-records_fit g c =
+pub differs-requires : goal.differs-requires
+differs-requires g c =
     let n = c.requires.next in
-    let so_far = n.2 in
-    subst (λ m. All (λ r. r < m) (records_in c.args.records)) (sym (ap length so_far.records_are ∙ so_far.records_fit))
-    (inclusion_fits c.args.program.now.listing n.1 (records_in c.args.records) c.args.observable n.3 c.well_formed-2.ensures)
-
-pub differs-requires-clause-reference_fit : goal.differs-requires-clause-reference_fit
-differs-requires-clause-reference_fit g c =
-    let n = c.requires.next in
-    let so_far = n.2 in
-    subst (λ m. All (λ r. r < m) (records_in c.args.records)) (sym (ap length so_far.reference_is ∙ so_far.reference_fits))
-    (inclusion_fits c.args.program.now.listing n.1 (records_in c.args.records) c.args.observable n.3 c.well_formed-2.ensures)
+    let fit = named_fit (records_in c.args.records) n.2 (inclusion_fits c.args.program.now.listing n.1 (records_in c.args.records) c.args.observable n.3 c.well_formed-2.ensures) in
+    record { records_fit = fit.0; reference_fit = fit.1 }
 
 pub overflow_add-number : goal.overflow_add-number
 overflow_add-number g c =
