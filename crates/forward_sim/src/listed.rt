@@ -1,11 +1,10 @@
-//! A list of numbers that is read before it is known how many things they number: the numbers are kept, and not marks.
+//! A list of numbers.
 ghost use Rattle.std.specs.Prelude.{◌≡◌, ◌↔◌, is_some, IfOk, IsTrue, MatchOption};
 ghost use Rattle.std.specs.List.{filter_map, list_all, slice_split};
 ghost use Rattle.std.specs.List.Sorted.{IsStrictlyIncreasing};
 ghost use Rattle.forward_sim.specs.Listed.{IsListOf, IsNoList};
 ghost use Rattle.forward_sim.specs.private.Numbers.{is_comma, number_below};
 
-use crate::lists::number_below;
 use std::alloc::{AllocError, Allocator};
 
 /// The numbers that a text lists, ascending: decimal numbers joined by commas, or nothing. None where the text is no such
@@ -29,6 +28,24 @@ pub fn listed_numbers<A: Allocator + Copy>(
         return Ok(None);
     }
     Ok(Some(numbers))
+}
+
+/// The number that a piece of a list writes, where it is one and below a count. While it is read it stays at the count
+/// once it reaches that, however many digits follow.
+fn number_below(count: usize, piece: &[u8]) -> Option<usize>
+    ensures { result ≡ number_below count piece.now }
+{
+    let mut n = 0usize;
+    for digit in piece {
+        if !digit.is_ascii_digit() {
+            return None;
+        }
+        n = n
+            .saturating_mul(10)
+            .saturating_add((*digit - b'0') as usize)
+            .min(count);
+    }
+    (!piece.is_empty() && n < count).then_some(n)
 }
 
 /// Whether each piece between commas is a number below 2^64 - 1.

@@ -1,12 +1,12 @@
 //! What a user gives besides a circuit: a text of coins, and a list of numbers. A collapse is the projective measurement
 //! inside a measurement or a reset; its coin is the outcome where that is random.
-ghost use Rattle.std.specs.Prelude.{◌≡◌, ◌⊎◌, false, None, Some, IfOk, IfErr, MatchBool, length, map, replicate};
+ghost use Rattle.std.specs.Prelude.{◌≡◌, ◌⊎◌, true, false, None, Some, IfOk, IfErr, length, map, nat_lt, replicate};
 ghost use Rattle.std.specs.List.{list_all};
 ghost use Rattle.step_model.specs.declared.fault.Cause.TheVariants.{CoinCount, FaultNumber};
 ghost use Rattle.step_model.specs.Faults.{memory_fault, without_line};
-ghost use Rattle.forward_sim.specs.Lists.{coins_of, is_one, is_zero_or_one, numbers_of};
-ghost use Rattle.forward_sim.specs.private.Numbers.{number_below};
+ghost use Rattle.forward_sim.specs.Lists.{coins_of, is_one, is_zero_or_one, marks, numbers_of};
 
+use crate::listed::listed_numbers;
 use circuit_walk::Program;
 use std::alloc::{AllocError, Allocator};
 use step_model::{Cause, Fault};
@@ -57,44 +57,21 @@ fn ones<A: Allocator + Copy>(alloc: A, text: &[u8]) -> Result<Vec<bool, A>, Allo
     Ok(ones)
 }
 
-/// The number that a piece of a list writes, where it is one and below a count. While it is read it stays at the count
-/// once it reaches that, however many digits follow.
-pub(crate) fn number_below(count: usize, piece: &[u8]) -> Option<usize>
-    ensures { result ≡ number_below count piece.now }
+fn are_below(numbers: &[usize], count: usize) -> bool
+    ensures { result ≡ list_all (λ n. nat_lt n count) numbers.now }
 {
-    let mut n = 0usize;
-    for digit in piece {
-        if !digit.is_ascii_digit() {
-            return None;
-        }
-        n = n
-            .saturating_mul(10)
-            .saturating_add((*digit - b'0') as usize)
-            .min(count);
-    }
-    (!piece.is_empty() && n < count).then_some(n)
+    numbers.iter().all(|n| *n < count)
 }
 
-/// Marks each number that a text lists; none is marked before. Answers whether the text is a list of numbers that have
-/// a mark, none twice; if not, the marks are of no use.
-fn mark_numbers(marks: &mut [bool], text: &[u8]) -> bool
-    requires { marks.old ≡ replicate (length marks.old) false }
-    ensures { MatchBool result (numbers_of (length marks.old) text.now ≡ Some marks.new)
-        (numbers_of (length marks.old) text.now ≡ None) }
+/// Marks these numbers; none is marked before.
+fn mark_numbers(marked: &mut [bool], numbers: &[usize])
+    requires fresh { marked.old ≡ replicate (length marked.old) false }
+    requires below { list_all (λ n. nat_lt n (length marked.old)) numbers.now ≡ true }
+    ensures { marked.new ≡ marks (length marked.old) numbers.now }
 {
-    if text.is_empty() {
-        return true;
+    for n in numbers {
+        marked[*n] = true;
     }
-    for piece in text.split(|b| *b == b',') {
-        let Some(n) = number_below(marks.len(), piece) else {
-            return false;
-        };
-        if marks[n] {
-            return false;
-        }
-        marks[n] = true;
-    }
-    true
 }
 
 /// For each number below a count, whether a list names it: decimal numbers joined by commas, or nothing.
@@ -107,9 +84,13 @@ pub fn read_numbers<A: Allocator + Copy>(
     ensures err { IfErr result (λ e. (e ≡ memory_fault)
         ⊎ ((e ≡ without_line FaultNumber) × (numbers_of count text.now ≡ None))) }
 {
-    let mut marks = vec![in alloc; false; count]?;
-    if !mark_numbers(&mut marks, text) {
+    let Some(numbers) = listed_numbers(alloc, text)? else {
+        return Err(FAULT_NUMBER);
+    };
+    if !are_below(numbers.as_slice(), count) {
         return Err(FAULT_NUMBER);
     }
-    Ok(marks)
+    let mut marked = vec![in alloc; false; count]?;
+    mark_numbers(marked.as_mut_slice(), numbers.as_slice());
+    Ok(marked)
 }

@@ -2,7 +2,7 @@ use Rattle.std.proofs.Common.{◌≡◌, min, take, true}
 use Rattle.std.specs.Char.{is_ascii_digit}
 use Rattle.std.specs.List.{list_all}
 use Rattle.forward_sim.specs.private.Numbers.{number_of}
-use Rattle.forward_sim.proofs.lists.number_below.Given as goal
+use Rattle.forward_sim.proofs.listed.number_below.Given as goal
 
 -- so far there are digits alone, and the number is theirs, or the count where they reach it
 abbrev pub invariant-loop-digit : goal.invariant-loop-digit
