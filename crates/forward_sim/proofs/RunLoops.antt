@@ -1,6 +1,6 @@
 -- A run that goes along with the steps of a program, one by one and over faults that don't happen.
-use Rattle.std.proofs.Common.{◌≡◌, ◌+◌, ℕ, Bool, List, [], false, length, refl, sym, ap, ◌∙◌, subst, arith, Option, Some}
-use Rattle.std.specs.Prelude.{slice_get, ◌&&◌}
+use Rattle.std.proofs.Common.{◌≡◌, ◌+◌, ◌<◌, ◌≤◌, ℕ, zero, suc, Bool, List, [], ◌∷◌, false, length, refl, sym, ap, ◌∙◌, subst, arith, Option, Some}
+use Rattle.std.specs.Prelude.{IfSome, slice_get, ◌&&◌}
 use Rattle.std.proofs.lemmas.List.{drop_all}
 use Rattle.pauli_word.specs.Words.{anticommute, with_sign_changed}
 use Rattle.step_model.specs.declared.step.Term.{Term}
@@ -51,6 +51,14 @@ same-quiet program faults f n m quiet = record {
   coins = refl;
   records = refl;
 }
+
+quiet_at : (faults : List Bool) (f : ℕ) → IfSome (slice_get faults f) (λ b. b ≡ false) → happens faults f ≡ false
+quiet_at [] f none = refl
+quiet_at (b ∷ faults) zero none = none
+quiet_at (b ∷ faults) (suc f) none = quiet_at faults f none
+
+pub none_happens : (faults : List Bool) (from end : ℕ) → ((f : ℕ) → from ≤ f → f < end → IfSome (slice_get faults f) (λ b. b ≡ false)) → NoneHappens faults from end
+none_happens faults from end none f low high = quiet_at faults f (none f low high)
 
 -- so do faults in a row none of which happens
 module _ (program : Listing) (well_formed : IsWellFormed program) (k first count : ℕ) (faults coins : List Bool) (are : AreFaultsFrom program.steps k first count) (none : NoneHappens faults first (first + count))

@@ -43,6 +43,7 @@ pub use drawing::draw;
 pub use forward::run;
 pub use listed::listed_numbers;
 pub use lists::{read_coins, read_numbers};
+pub use quiet::{Happening, quiet_count};
 pub use records::Records;
 pub use reference::Reference;
 pub use replaced_word::ReplacedWord;

@@ -1,21 +1,52 @@
-//! Faults that don't happen: a run passes over a stretch of them at once.
-ghost use Rattle.std.specs.Prelude.{◌+◌, ◌≤◌};
-ghost use Rattle.forward_sim.specs.private.Quiet.{NoneHappens};
+//! Faults that don't happen: one run, or 64 side by side, pass over a stretch of them at once.
+ghost use Rattle.std.specs.Prelude.{◌≡◌, ◌+◌, ◌<◌, ◌≤◌, ℕ, false, IfSome, slice_get};
 
-/// How many of so many faults, numbered from one on, don't happen before one that does.
-#[inline(always)]
-pub(crate) fn quiet_count(faults: &[bool], first: u32, count: usize) -> usize
-    ensures few { result ≤ count }
-    ensures none { NoneHappens faults.now first (first + result) }
-{
-    let start = first as usize;
-    if start >= faults.len() {
-        return count;
+/// What is said of a fault: whether it happens, of one run, or in which of 64 runs, a bit for each.
+pub trait Happening: Copy + Drop {
+    // It happens in no run.
+    ghost nowhere: { Self → Type 0 };
+
+    /// Whether it happens in a run.
+    fn happens(self) -> bool
+        ensures { result ≡ false → nowhere self };
+}
+
+impl Happening for bool {
+    ghost use Rattle.std.specs.Prelude.{◌≡◌, false};
+
+    ghost nowhere = { λ happens. happens ≡ false };
+
+    #[inline(always)]
+    fn happens(self) -> bool {
+        self
     }
-    let left = faults.len() - start;
+}
+
+impl Happening for u64 {
+    ghost use Rattle.std.specs.Prelude.{◌≡◌};
+
+    ghost nowhere = { λ runs. runs ≡ 0 };
+
+    #[inline(always)]
+    fn happens(self) -> bool {
+        self != 0
+    }
+}
+
+/// How many of so many faults, numbered from one on, happen in no run before one that does. Past the end of the list none happens.
+#[inline(always)]
+pub fn quiet_count<H: Happening>(faults: &[H], first: u32, count: usize) -> usize
+    ensures few { result ≤ count }
+    ensures none { (f : ℕ)
+        → first ≤ f
+        → f < first + result
+        → IfSome (slice_get faults.now f) H.nowhere }
+{
+    let start = (first as usize).min(faults.len());
+    let most = count.min(faults.len() - start);
     let mut passed = 0;
-    while passed < count && passed < left {
-        if faults[start + passed] {
+    while passed < most {
+        if faults[start + passed].happens() {
             return passed;
         }
         passed += 1;

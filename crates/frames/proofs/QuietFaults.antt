@@ -1,7 +1,6 @@
 -- Frames stay as they are at a fault that happens in no run.
-use Rattle.std.proofs.Common.{◌≡◌, ℕ, ◌+◌, ◌<◌, false, List, length, get_or, None, inl, inr, refl, sym, ap, subst, ◌∙◌, arith}
-use Rattle.std.proofs.lemmas.Bool.{cases_lt}
-use Rattle.std.proofs.lemmas.List as lists
+use Rattle.std.proofs.Common.{◌≡◌, ℕ, zero, suc, ◌<◌, ◌≤◌, List, [], ◌∷◌, None, refl, sym, ap, ◌∙◌}
+use Rattle.std.specs.Prelude.{IfSome, slice_get}
 use Rattle.bit_rows.specs.Lanes.{lane, lane_bit}
 use Rattle.bit_rows.proofs.LaneLaws.{lane_bit-zero}
 use Rattle.step_model.specs.Listing.{Listing, Fault, fault_word}
@@ -18,13 +17,11 @@ quiet-goes program faults f runs frames quiet = record {
   frames = λ j. sym (ap (λ b. record (frame_in j frames) { word = multiplied b (fault_word program f) (frame_in j frames).word }) (quiet j));
 }
 
--- a fault whose word is 0 happens in no run
-pub zero-quiet : (faults : List ℕ) (f : ℕ) → f < length faults → get_or faults f 0 ≡ 0 → HappensNowhere faults f
-zero-quiet faults f within none j =
-    lists.get_or-map (lane_bit j) faults f 0 false within ∙ ap (lane_bit j) none ∙ lane_bit-zero j
+-- faults whose words are 0 happen in no run
+quiet_at : (faults : List ℕ) (f : ℕ) → IfSome (slice_get faults f) (λ runs. runs ≡ 0) → HappensNowhere faults f
+quiet_at [] f none j = refl
+quiet_at (runs ∷ faults) zero none j = ap (lane_bit j) none ∙ lane_bit-zero j
+quiet_at (runs ∷ faults) (suc f) none j = quiet_at faults f none j
 
-pub none-more : (faults : List ℕ) (from end : ℕ) → NoneHappens faults from end → HappensNowhere faults end → NoneHappens faults from (end + 1)
-none-more faults from end none last f low high = elim (cases_lt f end) [
-  | inl before ↦ none f low before
-  | inr behind ↦ let same : end ≡ f = omega arith in subst (HappensNowhere faults) same last
-]
+pub none_happens : (faults : List ℕ) (from end : ℕ) → ((f : ℕ) → from ≤ f → f < end → IfSome (slice_get faults f) (λ runs. runs ≡ 0)) → NoneHappens faults from end
+none_happens faults from end none f low high = quiet_at faults f (none f low high)

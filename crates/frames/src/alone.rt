@@ -6,9 +6,9 @@ ghost use Rattle.frames.specs.Carried.{carried_frame};
 ghost use Rattle.frames.specs.LaneFrames.{frame_in};
 
 use crate::frames::Frames;
-use crate::quiet::quiet_count;
 use crate::steps::{apply_fault, collapse, collapse_word, feed_back, move_one, move_two};
 use circuit_walk::{FaultName, Letters, Program, StepTaker, take_all};
+use forward_sim::quiet_count;
 use gate_table::Gate;
 use pauli_word::Letter;
 use std::alloc::Allocator;

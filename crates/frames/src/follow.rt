@@ -8,10 +8,9 @@ ghost use Rattle.step_model.specs.Runs.{records_of, start};
 ghost use Rattle.frames.specs.Batches.{AreAtStart};
 
 use crate::frames::Frames;
-use crate::quiet::quiet_count;
 use crate::steps::{apply_fault, collapse, collapse_word, feed_back, move_one, move_two, word_at};
 use circuit_walk::{FaultName, Letters, Program, Step, StepTaker, take_all};
-use forward_sim::Reference;
+use forward_sim::{Reference, quiet_count};
 use gate_table::Gate;
 use pauli_word::Letter;
 use std::alloc::Allocator;

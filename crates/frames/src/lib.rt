@@ -19,7 +19,6 @@ mod frames;
 mod letters;
 mod lines;
 mod pair;
-mod quiet;
 mod shots;
 mod side_runs;
 mod steps;

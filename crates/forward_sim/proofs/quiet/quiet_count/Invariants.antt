@@ -1,13 +1,13 @@
-use Rattle.std.proofs.Common.{◌+◌, ◌-◌, ◌≤◌}
-use Rattle.forward_sim.specs.private.Quiet.{NoneHappens}
+use Rattle.std.proofs.Common.{ℕ, ◌+◌, ◌-◌, ◌<◌, ◌≤◌}
+use Rattle.std.specs.Prelude.{IfSome, slice_get}
 use Rattle.forward_sim.proofs.quiet.quiet_count.Given as goal
 
 abbrev pub invariant-loop-passed : goal.invariant-loop-passed
-invariant-loop-passed l =
+invariant-loop-passed g l =
     record {
-      none : NoneHappens l.faults l.first (l.first + l.passed);
-      few : l.passed ≤ l.count;
+      few : l.passed ≤ l.most;
+      none : (f : ℕ) → l.first ≤ f → f < l.first + l.passed → IfSome (slice_get l.faults f) g.H.Happening.nowhere;
     }
 
 abbrev pub decreases-loop-passed : goal.decreases-loop-passed
-decreases-loop-passed l = l.count - l.passed
+decreases-loop-passed g l = l.most - l.passed
