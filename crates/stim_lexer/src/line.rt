@@ -7,7 +7,9 @@ ghost use Rattle.stim_lexer.specs.Lexing.{cut_in};
 ghost use Rattle.stim_lexer.specs.Lines.{content_of, is_closing};
 ghost use Rattle.stim_lexer.specs.private.Special.{is_special};
 
-use crate::scan::{any_bad_byte, before_byte, cut_brackets, cut_name, from_brace, is_blank_text};
+use crate::scan::{
+    after_blanks, any_bad_byte, before_byte, cut_brackets, cut_name, from_brace, is_blank_text,
+};
 
 /// The braces of a line, outside tag and comment.
 #[derive(Clone, Copy)]
@@ -39,12 +41,13 @@ pub struct Line<'a> {
     pub braces: Braces,
 }
 
-/// A line's name, what follows name and tag up to a comment, whether the tag stays open, and whether the line has a
-/// special byte.
+/// A line's name, what follows name and tag up to a comment, the same without the blanks in front, whether the tag stays
+/// open, and whether the line has a special byte.
 #[derive(Clone, Copy)]
 pub(crate) struct Parts<'a> {
     pub name: &'a [u8],
     pub body: &'a [u8],
+    pub start: &'a [u8],
     pub leaves_tag_open: bool,
     pub special: bool,
 }
@@ -85,14 +88,17 @@ pub(crate) fn parts_of(scanned: Scanned<'_>) -> Parts<'_>
     requires special { scanned.special ≡ list_any is_special scanned.line.now }
     ensures name { result.name.now ≡ name_of scanned.entry.line.now }
     ensures body { result.body.now ≡ body_of scanned.entry.line.now }
+    ensures start { result.start.now ≡ after_blanks (body_of scanned.entry.line.now) }
     ensures stays_open { result.leaves_tag_open ≡ leaves_tag_open scanned.entry.line.now }
     ensures special { result.special ≡ scanned.entry.special }
 {
     let (name, rest) = cut_name(scanned.start);
-    let tag = cut_brackets(rest, b'[', b']');
+    let start = after_blanks(rest);
+    let tag = cut_brackets(rest, start, b'[', b']');
     Parts {
         name,
         body: before_byte(tag.after, b'#', !scanned.special),
+        start: before_byte(tag.start, b'#', !scanned.special),
         leaves_tag_open: tag.stays_open,
         special: scanned.special,
     }
@@ -138,12 +144,13 @@ pub(crate) fn line_of<'a>(number: u64, line: &'a [u8], closes: bool, parts: Part
     requires closes { closes ≡ is_closing line.now }
     requires name { parts.name.now ≡ name_of line.now }
     requires body { parts.body.now ≡ body_of line.now }
+    requires start { parts.start.now ≡ after_blanks (body_of line.now) }
     requires stays_open { parts.leaves_tag_open ≡ leaves_tag_open line.now }
     requires special { parts.special ≡ list_any is_special line.now }
     ensures number { result.number ≡ number }
     ensures cut { cut_in result ≡ cut_of line.now }
 {
-    let parentheses = cut_brackets(parts.body, b'(', b')');
+    let parentheses = cut_brackets(parts.body, parts.start, b'(', b')');
     let braces = braces_in(closes, parts.body, !parts.special);
     Line {
         number,

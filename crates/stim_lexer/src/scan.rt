@@ -99,19 +99,6 @@ fn plain_front(text: &[u8]) -> usize
     front
 }
 
-/// How many bytes in front of a text are known to be plain, where so many were. More are looked for where a line is longer.
-#[inline(always)]
-fn plain_for(plain: usize, text: &[u8], line: &[u8]) -> usize
-    requires { IsPlain plain text.now }
-    ensures { IsPlain result text.now }
-{
-    if line.len() <= plain {
-        plain
-    } else {
-        plain_front(text)
-    }
-}
-
 /// Whether a line has a special byte, where it is known that it has none if it isn't longer than what is plain.
 #[inline(always)]
 fn has_special(plain: usize, line: &[u8]) -> bool
@@ -126,7 +113,7 @@ fn has_special(plain: usize, line: &[u8]) -> bool
 }
 
 /// Whether the first line of a text has a special byte, and how many bytes are known to be plain behind the line, where so
-/// many in front of the text were.
+/// many in front of the text were. Most lines end among these.
 #[inline(always)]
 pub(crate) fn judge_line(plain: usize, text: &[u8], line: &[u8], after: &[u8]) -> (bool, usize)
     requires plain { IsPlain plain text.now }
@@ -134,7 +121,20 @@ pub(crate) fn judge_line(plain: usize, text: &[u8], line: &[u8], after: &[u8]) -
     ensures special { result.0 ≡ list_any is_special line.now }
     ensures plain { IsPlain result.1 after.now }
 {
-    let plain = plain_for(plain, text, line);
+    if line.len() < plain {
+        return (false, (plain - line.len() - 1).min(after.len()));
+    }
+    judge_far_line(text, line, after)
+}
+
+/// The same for a line that doesn't end among these: more of them are looked for.
+#[inline(never)]
+fn judge_far_line(text: &[u8], line: &[u8], after: &[u8]) -> (bool, usize)
+    requires { IsFirstLine text.now line.now after.now }
+    ensures special { result.0 ≡ list_any is_special line.now }
+    ensures plain { IsPlain result.1 after.now }
+{
+    let plain = plain_front(text);
     let special = has_special(plain, line);
     (
         special,
@@ -265,35 +265,47 @@ fn cut_round(text: &[u8], byte: u8) -> (&[u8], &[u8], bool)
     }
 }
 
-/// What stands in brackets or parentheses, and what follows them.
+/// What stands in brackets or parentheses, and what follows them, with and without the blanks in front.
 #[derive(Clone, Copy)]
 pub(crate) struct Bracketed<'a> {
     pub inside: &'a [u8],
     pub after: &'a [u8],
+    pub start: &'a [u8],
     pub stays_open: bool,
 }
 
-/// Cuts a text at the first closing byte, where it begins with an opening one after any blanks.
-pub(crate) fn cut_brackets(text: &[u8], opening: u8, closing: u8) -> Bracketed<'_>
+/// Cuts a text at the first closing byte, where it begins with an opening one after any blanks. `start` is the text without
+/// these.
+#[inline(always)]
+pub(crate) fn cut_brackets<'a>(
+    text: &'a [u8],
+    start: &'a [u8],
+    opening: u8,
+    closing: u8,
+) -> Bracketed<'a>
+    requires { start.now ≡ after_blanks text.now }
     ensures inside { result.inside.now
         ≡ in_brackets (λ b. b == opening) (λ b. b == closing) text.now }
     ensures after { result.after.now
         ≡ after_brackets (λ b. b == opening) (λ b. b == closing) text.now }
+    ensures start { result.start.now ≡ after_blanks result.after.now }
     ensures stays_open { result.stays_open
         ≡ leaves_open (λ b. b == opening) (λ b. b == closing) text.now }
 {
-    match after_blanks(text) {
+    match start {
         [first, opened @ ..] if *first == opening => {
             let (inside, after, closed) = cut_round(opened, closing);
             Bracketed {
                 inside,
                 after,
+                start: after_blanks(after),
                 stays_open: !closed,
             }
         }
         _ => Bracketed {
             inside: &[],
             after: text,
+            start,
             stays_open: false,
         },
     }

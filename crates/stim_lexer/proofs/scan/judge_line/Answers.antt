@@ -1,11 +1,11 @@
-use Rattle.std.proofs.Common.{arith}
+use Rattle.std.proofs.Common.{sym, arith}
 use Rattle.stim_lexer.proofs.PlainLemmas.{line_plain, plain_behind}
 use Rattle.stim_lexer.proofs.scan.judge_line.Goals as goal
 
-pub has_special-special-requires : goal.has_special-special-requires
-has_special-special-requires c = line_plain _ c.args.text.now c.args.line.now c.args.after.now c.plain_for-plain.ensures c.requires.first
+pub returns-then-line-plain-clause-special : goal.returns-then-line-plain-clause-special
+returns-then-line-plain-clause-special c = sym (line_plain _ c.args.text.now c.args.line.now c.args.after.now c.requires.plain c.requires.first (omega arith))
 
-pub returns-clause-plain : goal.returns-clause-plain
-returns-clause-plain c =
-    plain_behind _ _ c.args.text.now c.args.line.now c.args.after.now c.plain_for-plain.ensures c.requires.first
-    (omega (arith, c.min.ensures, c.saturating_sub.ensures)) (omega (arith, c.min.ensures))
+pub returns-then-line-plain-clause-plain : goal.returns-then-line-plain-clause-plain
+returns-then-line-plain-clause-plain c =
+    plain_behind _ _ c.args.text.now c.args.line.now c.args.after.now c.requires.plain c.requires.first
+    (omega (arith, c.min.ensures)) (omega (arith, c.min.ensures))
