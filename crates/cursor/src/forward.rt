@@ -1,7 +1,7 @@
 //! The way to the next chosen instruction, over the starts and ends of blocks and the other
 //! instructions.
 
-ghost use Rattle.std.specs.Prelude.{◌≡◌, ◌<◌, ◌≤◌, ◌^◌, ℕ, Some, false, true, length, slice_get};
+ghost use Rattle.std.specs.Prelude.{◌≡◌, ◌<◌, ◌≤◌, ◌+◌, ◌^◌, ◌-◌, ◌∷◌, ◌++◌, [], ℕ, Some, false, true, length, slice_get, take};
 ghost use Rattle.stim_lexer.specs.Trees.{BlockStart, BlockEnd};
 ghost use Rattle.cursor.specs.Places.{AreNested, IsPlace, levels_of};
 ghost use Rattle.cursor.specs.private.Forward.{IsPassing, Passes, GoesTo};
@@ -10,8 +10,9 @@ ghost use Rattle.cursor.specs.private.Marks.{IsChosen, IsOther};
 use crate::choice::Choice;
 use crate::cursor::{Cursor, Level};
 use crate::marks::{Mark, mark_at};
+use arrayvec::ArrayVec;
 use std::alloc::Allocator;
-use stim_lexer::Items;
+use stim_lexer::{Items, LEVELS};
 
 impl Cursor {
     // Goes into the first iteration of the block that starts here.
@@ -56,23 +57,39 @@ impl Cursor {
         ensures { Passes (λ i. C.chosen i.operation) items.now.items
             self.old fresh self.new result }
     {
-        let level = self.open.pop().unwrap();
+        let last = self.open.len() - 1;
+        let level = self.open.as_slice()[last];
         if fresh > 0 {
-            self.index += 1;
+            self.go_out();
             return fresh - 1;
         }
         if level.left == 0 {
-            self.index += 1;
+            self.go_out();
             return 0;
         }
         let end = self.index;
         self.index = level.body;
-        self.open.push(Level {
-            body: level.body,
-            end,
-            left: level.left - 1,
-        });
+        put_last(
+            &mut self.open,
+            Level {
+                body: level.body,
+                end,
+                left: level.left - 1,
+            },
+        );
         1
+    }
+
+    // Goes behind the end of the innermost block, which is here.
+    #[inline(always)]
+    fn go_out(&mut self)
+        requires { self.old.index + 1 < 2 ^ 64 }
+        ensures index { self.new.index ≡ self.old.index + 1 }
+        ensures rest { self.new.open.items
+            ≡ take (length self.old.open.items - 1) self.old.open.items }
+    {
+        let _level = self.open.pop();
+        self.index += 1;
     }
 
     // Goes over an instruction that isn't chosen, and over those behind it. The place is kept apart on the way, so that the
@@ -132,6 +149,17 @@ impl Cursor {
         }
         false
     }
+}
+
+// Puts a level in place of the innermost one.
+#[inline(always)]
+fn put_last(levels: &mut ArrayVec<Level, LEVELS>, level: Level)
+    requires { 0 < length levels.old.items }
+    ensures { levels.new.items
+        ≡ take (length levels.old.items - 1) levels.old.items ++ level ∷ [] }
+{
+    let last = levels.len() - 1;
+    levels.as_mut_slice()[last] = level;
 }
 
 // Whether an instruction stands at a place that isn't chosen.
