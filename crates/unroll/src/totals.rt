@@ -56,14 +56,18 @@ fn repeated_sum(turns: u64, before: u64, after: u64) -> u64
     after.saturating_add(more)
 }
 
-/// The line that was found before, or else this line where something holds of it.
+/// Keeps the line that was found before, or else this line where something holds of it. Mostly nothing is written.
 #[inline(always)]
-fn first_line(found: Option<u64>, holds: bool, line: u64) -> Option<u64>
-    ensures { result ≡ first_line found holds line }
+fn keep_first(found: &mut Option<u64>, holds: bool, line: u64)
+    ensures { found.new ≡ first_line found.old holds line }
 {
-    match found {
-        Some(before) => Some(before),
-        None => { if holds { Some(line) } else { None } }
+    match *found {
+        Some(_) => {}
+        None => {
+            if holds {
+                *found = Some(line);
+            }
+        }
     }
 }
 
@@ -117,9 +121,9 @@ impl Totals {
         let targets = target_count(operation, instruction.targets);
         let reach = reach_of(self.records, instruction.targets);
         self.steps = capped_sum(self.steps, 1 + targets);
-        self.made = capped_sum(self.made, steps_made(operation, targets));
         self.qubits = self.qubits.max(reach.qubits);
-        self.far_line = first_line(self.far_line, reach.is_far, line);
+        keep_first(&mut self.far_line, reach.is_far, line);
+        self.made = capped_sum(self.made, steps_made(operation, targets));
         match operation {
             // A gate adds to nothing else, and most lines are gates, errors or detectors.
             Operation::Applies(_) => {}
@@ -136,7 +140,7 @@ impl Totals {
                 self.detectors = capped_sum(self.detectors, detectors_made(operation));
                 self.faults = capped_sum(self.faults, faults_counted(operation, flips, targets));
                 self.observables = self.observables.max(named);
-                self.beyond_line = first_line(self.beyond_line, are_beyond_limit(named), line);
+                keep_first(&mut self.beyond_line, are_beyond_limit(named), line);
             }
         }
     }
