@@ -1,5 +1,6 @@
-//! What was found last: lines that follow one another often have the same name, and the same in their parentheses.
-ghost use Rattle.std.specs.Prelude.{◌≡◌, ◌≢◌, [], true, option_map, MatchBool};
+//! What was found last: the lines of a text have few names, and those that follow one another often the same in their
+//! parentheses.
+ghost use Rattle.std.specs.Prelude.{◌≡◌, ◌≢◌, ◌<◌, [], true, option_map, MatchBool};
 ghost use Rattle.step_model.specs.Probabilities.{probability_bound};
 ghost use Rattle.step_model.specs.Chances.{chance_of};
 ghost use Rattle.stim_parser.specs.declared.forms.ArgumentForm.TheVariants.{ProbabilityAtWill};
@@ -15,45 +16,73 @@ use crate::table::Keyword;
 use std::marker::Model;
 use step_model::ChanceText;
 
-/// The name that was looked up last, and what it names. Contracts see the name.
-#[derive(Drop)]
-pub(crate) struct LastName<'a> {
+/// How many names are remembered.
+const PLACES: usize = 32;
+
+/// A name that was looked up, and what it names.
+#[derive(Clone, Copy)]
+struct Named<'a> {
     name: &'a [u8],
     keyword: Option<Keyword<Operation>>,
 }
 
-impl<'a> Model for LastName<'a> {
-    ghost use Rattle.std.specs.Prelude.{◌≡◌, ℕ, List};
+/// Names that were looked up, each at a place that its bytes tell: the last one that has this place. Lines beside one another
+/// have different names, but a text has few. Contracts see none, as no answer depends on which are remembered.
+#[derive(Drop)]
+pub(crate) struct LastNames<'a> {
+    names: [Named<'a>; PLACES],
+}
+
+impl<'a> Model for LastNames<'a> {
+    ghost use Rattle.std.specs.Prelude.{◌≡◌, ℕ, List, [], length, All};
     ghost use Rattle.stim_parser.specs.Instructions.{keyword_named};
 
     ghost Value = { List ℕ };
 
-    ghost view = { λ last. last.name.now };
+    ghost view = { λ last. [] };
 
-    ghost invariant = { λ last. last.keyword ≡ keyword_named last.name.now };
+    ghost invariant = { λ last. (length last.names ≡ 32) × All (λ named. named.keyword ≡ keyword_named named.name.now) last.names };
 }
 
-impl<'a> LastName<'a> {
-    /// That of the empty name.
+/// The place of a name.
+#[inline(always)]
+fn place_of(name: &[u8]) -> usize
+    ensures { result < PLACES }
+{
+    match name {
+        [] => 0,
+        [first, ..] => {
+            let last = name[name.len() - 1];
+            (2 * *first as usize + last as usize + 4 * (name.len() % 8)) % PLACES
+        }
+    }
+}
+
+impl<'a> LastNames<'a> {
+    /// No name but the empty one.
     pub(crate) fn new() -> Self
         ensures { result ≡ [] }
     {
-        LastName {
+        let none = Named {
             name: &[],
             keyword: keyword_named(&[]),
+        };
+        LastNames {
+            names: [none; PLACES],
         }
     }
 
     /// The keyword that a name names, in any case.
     pub(crate) fn keyword(&mut self, name: &'a [u8]) -> Option<Keyword<Operation>>
-        ensures value { result ≡ keyword_named name.now }
-        ensures last { self.new ≡ name.now }
+        ensures { result ≡ keyword_named name.now }
     {
-        if self.name == name {
-            return self.keyword;
+        let place = place_of(name);
+        let named = self.names[place];
+        if named.name == name {
+            return named.keyword;
         }
         let keyword = keyword_named(name);
-        *self = LastName { name, keyword };
+        self.names[place] = Named { name, keyword };
         keyword
     }
 }
@@ -179,10 +208,10 @@ impl<'a> LastParentheses<'a> {
     }
 }
 
-/// What was read last: a name, what stood in parentheses, and a probability.
+/// What was read last: names, what stood in parentheses, and a probability.
 #[derive(Drop)]
 pub struct Last<'a> {
-    pub(crate) name: LastName<'a>,
+    pub(crate) name: LastNames<'a>,
     pub parentheses: LastParentheses<'a>,
     pub probability: LastProbability<'a>,
 }
@@ -195,7 +224,7 @@ impl<'a> Last<'a> {
         ensures probability { result.probability ≡ [] }
     {
         Last {
-            name: LastName::new(),
+            name: LastNames::new(),
             parentheses: LastParentheses::new(),
             probability: LastProbability::new(),
         }
