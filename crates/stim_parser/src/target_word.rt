@@ -1,7 +1,8 @@
 //! A target in one machine word.
 
-ghost use Rattle.std.specs.Prelude.{◌≡◌};
-ghost use Rattle.stim_parser.specs.private.Words.{HasRoom, named, word_of};
+ghost use Rattle.std.specs.Prelude.{◌≡◌, ◌<◌, false, MatchOption};
+ghost use Rattle.stim_parser.specs.Limits.{is_plain, qubit_of};
+ghost use Rattle.stim_parser.specs.private.Words.{HasRoom, letter_code, letter_in, named, word_of};
 
 use crate::target::Target;
 use pauli_word::Letter;
@@ -33,6 +34,33 @@ impl Model for TargetWord {
     ghost inverse_ok = { λ t h. ap (λ (word : ℕ). let made : Inside = record { word = word } in made) h };
 }
 
+/// The number of a letter, below four.
+#[inline(always)]
+fn letter_code(letter: Letter) -> u64
+    ensures is { result ≡ letter_code letter }
+    ensures few { result < 4 }
+{
+    match letter {
+        Letter::I => 0,
+        Letter::X => 1,
+        Letter::Y => 2,
+        Letter::Z => 3,
+    }
+}
+
+/// The letter of a number below four.
+#[inline(always)]
+fn letter_in(code: u64) -> Letter
+    ensures { result ≡ letter_in code }
+{
+    match code {
+        0 => Letter::I,
+        1 => Letter::X,
+        2 => Letter::Y,
+        _ => Letter::Z,
+    }
+}
+
 /// The word of a target.
 #[inline(always)]
 fn word_of(target: Target) -> u64
@@ -44,14 +72,10 @@ fn word_of(target: Target) -> u64
         Target::Inverted(qubit) => qubit * 16 + 1,
         Target::Back(back) => back * 16 + 2,
         Target::Star => 3,
-        Target::Pauli(false, Letter::I, qubit) => qubit * 16 + 8,
-        Target::Pauli(false, Letter::X, qubit) => qubit * 16 + 9,
-        Target::Pauli(false, Letter::Y, qubit) => qubit * 16 + 10,
-        Target::Pauli(false, Letter::Z, qubit) => qubit * 16 + 11,
-        Target::Pauli(true, Letter::I, qubit) => qubit * 16 + 12,
-        Target::Pauli(true, Letter::X, qubit) => qubit * 16 + 13,
-        Target::Pauli(true, Letter::Y, qubit) => qubit * 16 + 14,
-        Target::Pauli(true, Letter::Z, qubit) => qubit * 16 + 15,
+        Target::Pauli(inverted, letter, qubit) => {
+            let kind = if inverted { 12 } else { 8 };
+            qubit * 16 + (kind + letter_code(letter))
+        }
     }
 }
 
@@ -65,14 +89,7 @@ fn named(kind: u64, number: u64) -> Target
         1 => Target::Inverted(number),
         2 => Target::Back(number),
         3 => Target::Star,
-        8 => Target::Pauli(false, Letter::I, number),
-        9 => Target::Pauli(false, Letter::X, number),
-        10 => Target::Pauli(false, Letter::Y, number),
-        11 => Target::Pauli(false, Letter::Z, number),
-        12 => Target::Pauli(true, Letter::I, number),
-        13 => Target::Pauli(true, Letter::X, number),
-        14 => Target::Pauli(true, Letter::Y, number),
-        _ => Target::Pauli(true, Letter::Z, number),
+        _ => Target::Pauli(kind >= 12, letter_in(kind % 4), number),
     }
 }
 
@@ -94,5 +111,28 @@ impl TargetWord {
         ensures { result ≡ self }
     {
         named(self.word % 16, self.word / 16)
+    }
+
+    /// The number of a target that is a number alone: a loop over qubits asks for no more.
+    #[inline(always)]
+    pub fn plain(self) -> Option<u64>
+        ensures { MatchOption result (is_plain self ≡ false) (λ number. self ≡ Target.Plain number) }
+    {
+        if self.word % 16 == 0 {
+            Some(self.word / 16)
+        } else {
+            None
+        }
+    }
+
+    /// The qubit that the target names; 0 where it names none.
+    #[inline(always)]
+    pub fn qubit(self) -> u64
+        ensures { result ≡ qubit_of self }
+    {
+        match self.word % 16 {
+            2 | 3 => 0,
+            _ => self.word / 16,
+        }
     }
 }

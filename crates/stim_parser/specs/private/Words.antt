@@ -1,6 +1,6 @@
 -- A target in one word: what it is in the four lowest bits, and its number in the sixty above.
 -- (How it is kept is this project's own.)
-use Rattle.std.specs.Prelude.{◌≡◌, ℕ, ◌+◌, ◌*◌, ◌/◌, ◌%◌, ◌==◌, ◌<◌, ◌^◌, ⊤, true, false, if◌then◌else◌}
+use Rattle.std.specs.Prelude.{◌≡◌, ℕ, ◌+◌, ◌*◌, ◌/◌, ◌%◌, ◌==◌, ◌<◌, ◌^◌, nat_le, ⊤, if◌then◌else◌}
 use Rattle.pauli_word.specs.declared.letter.Letter.{Letter}
 use Rattle.pauli_word.specs.declared.letter.Letter.TheVariants.{I, X, Y, Z}
 use Rattle.stim_parser.specs.declared.target.Target.{Target}
@@ -21,10 +21,7 @@ letter_code Z = 3
 abbrev pub named : ℕ → ℕ → Target
 named kind number =
     if kind == 0 then Plain number else if kind == 1 then Inverted number else if kind == 2 then Back number
-    else if kind == 3 then Star else if kind == 8 then Pauli false I number else if kind == 9 then Pauli false X number
-    else if kind == 10 then Pauli false Y number else if kind == 11 then Pauli false Z number
-    else if kind == 12 then Pauli true I number else if kind == 13 then Pauli true X number
-    else if kind == 14 then Pauli true Y number else Pauli true Z number
+    else if kind == 3 then Star else Pauli (nat_le 12 kind) (letter_in (kind % 4)) number
 
 -- the target of a word
 abbrev pub target_in : ℕ → Target
@@ -35,7 +32,7 @@ abbrev pub word_of : Target → ℕ
 word_of (Plain n) = n * 16
 word_of (Inverted n) = n * 16 + 1
 word_of (Back n) = n * 16 + 2
-word_of (Pauli inverted l n) = n * 16 + (8 + (if inverted then 4 else 0) + letter_code l)
+word_of (Pauli inverted l n) = n * 16 + ((if inverted then 12 else 8) + letter_code l)
 word_of Star = 3
 
 -- a word of a target
