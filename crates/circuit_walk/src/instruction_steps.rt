@@ -23,7 +23,7 @@ use crate::products::{is_inverted, is_product_inverted, product_behind};
 use crate::step::{Counts, FaultName, Step};
 use gate_table::Gate;
 use pauli_word::Letter;
-use stim_parser::{Operation, Target, TargetWord};
+use stim_parser::{Operation, TargetWord};
 
 /// An instruction whose steps are gone through, and how many of its targets are behind.
 #[derive(Clone, Copy)]
@@ -122,11 +122,11 @@ impl<'c> InstructionSteps<'c> {
 
     /// The target at a place.
     #[inline(always)]
-    pub(crate) fn target(&self, at: usize) -> Target
+    pub(crate) fn target(&self, at: usize) -> TargetWord
         requires { at < length self.now.targets.now }
         ensures { slice_get self.now.targets.now at ≡ Some result }
     {
-        self.targets[at].get()
+        self.targets[at]
     }
 
     /// The counts behind a step that is a fault.

@@ -20,22 +20,19 @@ pub struct Letters<'c> {
 
 /// The qubit that a target names.
 #[inline(always)]
-pub(crate) fn qubit_of(target: Target) -> u32
+pub(crate) fn qubit_of(target: TargetWord) -> u32
     requires { HasSmallQubit target }
     ensures { result ≡ qubit_of target }
 {
-    match target {
-        Target::Plain(q) | Target::Inverted(q) | Target::Pauli(_, _, q) => q as u32,
-        Target::Back(_) | Target::Star => 0,
-    }
+    target.qubit() as u32
 }
 
 /// The letter of a target.
 #[inline(always)]
-fn pauli_letter(target: Target) -> Letter
+fn pauli_letter(target: TargetWord) -> Letter
     ensures { result ≡ pauli_letter target }
 {
-    match target {
+    match target.get() {
         Target::Pauli(_, letter, _) => letter,
         _ => Letter::I,
     }
@@ -43,7 +40,7 @@ fn pauli_letter(target: Target) -> Letter
 
 /// The letter given, or else that of a target, at the target's qubit.
 #[inline(always)]
-fn named_letter(letter: Option<Letter>, target: Target) -> Term
+fn named_letter(letter: Option<Letter>, target: TargetWord) -> Term
     requires { HasSmallQubit target }
     ensures { result ≡ named_letter letter target }
 {
@@ -81,7 +78,7 @@ impl<'c> Letters<'c> {
     {
         match self.targets {
             [first, rest @ ..] => Some((
-                named_letter(self.letter, first.get()),
+                named_letter(self.letter, *first),
                 Letters {
                     letter: self.letter,
                     targets: behind_star(rest),

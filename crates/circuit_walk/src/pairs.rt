@@ -10,7 +10,7 @@ use crate::letters::qubit_of;
 use crate::step::Step;
 use gate_table::Gate;
 use pauli_word::Letter;
-use stim_parser::Target;
+use stim_parser::{Target, TargetWord};
 
 /// The step of a pair: its gate at two qubits, or a letter at a qubit where an earlier record is 1.
 #[derive(Clone, Copy)]
@@ -46,14 +46,21 @@ fn fed_letter(gate: Gate) -> Letter
 
 /// The step of a pair after so many records.
 #[inline(always)]
-pub(crate) fn pair_step(gate: Gate, first: Target, second: Target, records: u32) -> PairStep
+pub(crate) fn pair_step(gate: Gate, first: TargetWord, second: TargetWord, records: u32) -> PairStep
     requires first { HasSmallQubit first }
     requires second { HasSmallQubit second }
     requires near_first { back_of first ≤ records }
     requires near_second { back_of second ≤ records }
     ensures { (n : ℕ) → listed n (pair_in gate result) ≡ pair_made n records gate first second }
 {
-    match (first, second) {
+    // Mostly both are qubits, and what else a target may be isn't asked.
+    if let (Some(a), Some(b)) = (first.plain(), second.plain()) {
+        return PairStep::Qubits {
+            a: a as u32,
+            b: b as u32,
+        };
+    }
+    match (first.get(), second.get()) {
         (Target::Back(back), _) => PairStep::Fed {
             letter: fed_letter(gate),
             q: qubit_of(second),

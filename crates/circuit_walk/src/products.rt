@@ -18,10 +18,10 @@ fn is_star(target: TargetWord) -> bool
 
 /// Whether a target has a `!`.
 #[inline(always)]
-pub(crate) fn is_inverted(target: Target) -> bool
+pub(crate) fn is_inverted(target: TargetWord) -> bool
     ensures { result ≡ is_inverted target }
 {
-    match target {
+    match target.get() {
         Target::Inverted(_) => true,
         Target::Pauli(inverted, _, _) => inverted,
         Target::Plain(_) | Target::Back(_) | Target::Star => false,
@@ -43,7 +43,7 @@ pub(crate) fn is_product_inverted(product: &[TargetWord]) -> bool
     let mut inverted = false;
     let mut rest = product;
     while let [first, after @ ..] = rest {
-        inverted = exclusive_or(inverted, is_inverted(first.get()));
+        inverted = exclusive_or(inverted, is_inverted(*first));
         rest = after;
     }
     inverted
