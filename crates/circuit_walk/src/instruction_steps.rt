@@ -2,6 +2,7 @@
 
 ghost use Rattle.std.specs.Prelude.{◌≡◌, ◌+◌, ◌<◌, ◌≤◌, ◌^◌, ℕ, All, IfSome, [], false, true, Some, if◌then◌else◌, None, length, option_map, slice_get, slice_index_or, take};
 ghost use Rattle.circuit_walk.specs.Before.{Before};
+ghost use Rattle.circuit_walk.specs.Makes.{makes_faults};
 ghost use Rattle.circuit_walk.specs.Meaning.{new_steps};
 ghost use Rattle.circuit_walk.specs.Refusals.{reaches_far};
 ghost use Rattle.circuit_walk.specs.Small.{HasSmallQubit};
@@ -17,12 +18,8 @@ ghost use Rattle.stim_parser.specs.Kept.{instruction_in};
 ghost use Rattle.stim_parser.specs.Verdicts.{Instruction};
 ghost use Rattle.stim_parser.specs.declared.operation.Operation.TheVariants.{CorrelatedError, PauliError, ProductMeasurement};
 
-use crate::letters::{Letters, qubit_of};
-use crate::pairs::pair_step;
-use crate::products::{is_inverted, is_product_inverted, product_behind};
-use crate::step::{Counts, FaultName, Step};
-use gate_table::Gate;
-use pauli_word::Letter;
+use crate::step::{Counts, FaultName};
+use crate::steps_back::makes_records;
 use stim_parser::{Operation, TargetWord};
 
 /// An instruction whose steps are gone through, and how many of its targets are behind.
@@ -32,7 +29,7 @@ pub(crate) struct InstructionSteps<'c> {
     pub targets: &'c [TargetWord],
     /// The number of its probability, where it has one.
     pub chance: u32,
-    /// Whether its records may be flipped.
+    /// Whether its records may be flipped; false where it makes none.
     pub flips: bool,
     /// A place among its targets, from 0 to `end`.
     pub at: usize,
@@ -58,6 +55,15 @@ fn end_of(operation: Operation, targets: &[TargetWord]) -> usize
         | Operation::QubitCoordinates
         | Operation::CoordinateShift => 0,
     }
+}
+
+/// Whether the records of an instruction may be flipped. Where it makes none its arguments aren't looked at.
+#[inline(always)]
+fn may_flip(instruction: stim_parser::Instruction<'_, '_>) -> bool
+    ensures { makes_faults instruction.entry.operation result
+        ≡ makes_faults instruction.entry.operation (has_argument (instruction_in instruction.entry)) }
+{
+    makes_records(instruction.operation) && stim_parser::has_argument(instruction.arguments)
 }
 
 impl<'c> InstructionSteps<'c> {
@@ -89,7 +95,7 @@ impl<'c> InstructionSteps<'c> {
             operation: instruction.operation,
             targets: instruction.targets,
             chance: instruction.mark,
-            flips: stim_parser::has_argument(instruction.arguments),
+            flips: may_flip(instruction),
             at: 0,
             end: end_of(instruction.operation, instruction.targets),
         }

@@ -11,7 +11,7 @@ use crate::step::Counts;
 use stim_parser::Operation;
 
 #[inline(always)]
-fn makes_records(operation: Operation) -> bool
+pub(crate) fn makes_records(operation: Operation) -> bool
     ensures { result ≡ makes_records operation }
 {
     matches!(
