@@ -1,18 +1,20 @@
 -- What is known of the steps of an instruction at a place, by their operation.
 use Rattle.std.proofs.Common.{◌≡◌, ◌≢◌, ◌≤◌, ◌<◌, ◌+◌, ◌*◌, ◌%◌, ◌==◌, ℕ, zero, suc, Bool, true, false, if◌then◌else◌, List, length, refl, sym, ap, ap₂, ◌∙◌, subst, arith}
 use Rattle.std.specs.Prelude.{All}
-use Rattle.std.proofs.lemmas.Bool.{eqb-false, eqb-true}
+use Rattle.std.specs.List.{list_all}
+use Rattle.std.proofs.lemmas.Bool.{eq-eqb, eqb-false, eqb-true}
 use Rattle.gate_table.proofs.Arity.{two_unless_one}
 use Rattle.gate_table.specs.declared.gate.Gate.{Gate}
 use Rattle.gate_table.specs.declared.gate.Gate.TheVariants as gate
 use Rattle.gate_table.specs.Images.{arity_of}
+use Rattle.pauli_word.specs.declared.letter.Letter.{Letter}
 use Rattle.stim_parser.specs.declared.operation.Operation.{Operation}
-use Rattle.stim_parser.specs.declared.operation.Operation.TheVariants.{ProductMeasurement}
+use Rattle.stim_parser.specs.declared.operation.Operation.TheVariants.{ProductMeasurement, QubitReset}
 use Rattle.stim_parser.specs.declared.forms.TargetForm.TheVariants.{QubitPairs, Qubits}
 use Rattle.stim_parser.specs.declared.table.Keyword.TheVariants.{Does}
 use Rattle.stim_parser.specs.declared.target.Target.{Target}
 use Rattle.stim_parser.specs.Instructions.{gate_targets, target_form}
-use Rattle.stim_parser.specs.Limits.{are_of_form, are_products, has_wrong_count}
+use Rattle.stim_parser.specs.Limits.{are_of_form, are_products, has_wrong_count, is_plain, is_plain_or_inverted}
 use Rattle.stim_parser.specs.Verdicts.{Instruction}
 use Rattle.circuit_walk.specs.declared.instruction_steps.InstructionSteps.{InstructionSteps}
 use Rattle.circuit_walk.specs.declared.step.Counts.{Counts}
@@ -23,6 +25,7 @@ use Rattle.circuit_walk.specs.Small.{HasSmallQubit}
 use Rattle.circuit_walk.specs.StepsMade.{operation_made}
 use Rattle.circuit_walk.specs.private.InstructionSteps.{AreStepsOf, IsAt, Stands, end_of, has_argument}
 use Rattle.circuit_walk.specs.Makes.{makes_faults, makes_records, one_if}
+use Rattle.circuit_walk.specs.private.Taken.{measuring}
 use Rattle.circuit_walk.proofs.TargetLemmas.{small_targets}
 
 -- the targets of steps fit their operation
@@ -83,6 +86,24 @@ own n i b s c k operation h is =
 pub products_of_form : (ts : List Target) → are_of_form (target_form (Does ProductMeasurement)) ts ≡ true → are_products ts ≡ true
 unfolding are_of_form
 products_of_form ts h = h
+
+-- ---- qubits alone
+
+pub single_form : (g : Gate) (ts : List Target) → arity_of g ≡ 1 → are_of_form (gate_targets g) ts ≡ true → list_all is_plain ts ≡ true
+unfolding are_of_form
+single_form gate.CX ts one h = absurd (omega (arith, one))
+single_form gate.CY ts one h = absurd (omega (arith, one))
+single_form gate.CZ ts one h = absurd (omega (arith, one))
+single_form g ts one h = sym (ap (λ (single : Bool). are_of_form (if single then Qubits else QubitPairs) ts) (eq-eqb (arity_of g) 1 one)) ∙ h
+
+pub reset_form : (l : Letter) (ts : List Target) → are_of_form (target_form (Does (QubitReset l))) ts ≡ true → list_all is_plain ts ≡ true
+unfolding are_of_form
+reset_form l ts h = h
+
+pub measured_form : (l : Letter) (reset : Bool) (ts : List Target) → are_of_form (target_form (Does (measuring reset l))) ts ≡ true → list_all is_plain_or_inverted ts ≡ true
+unfolding are_of_form
+measured_form l false ts h = h
+measured_form l true ts h = h
 
 -- ---- pairs
 

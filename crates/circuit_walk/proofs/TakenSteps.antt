@@ -1,8 +1,8 @@
 -- The step at a place of an instruction is the one that its operation makes of the target, the pair or the product there.
 use Rattle.std.proofs.Common.{◌≡◌, ◌<◌, ◌+◌, ◌*◌, ◌==◌, ℕ, zero, suc, Bool, true, false, if◌then◌else◌, List, [], ◌∷◌, length, get_or, map, Option, None, Some, refl, sym, ap, ap₂, ◌∙◌, subst, arith, option_map}
 use Rattle.std.specs.Prelude.{◌≤◌, All, IfSome, slice_get, take}
-use Rattle.std.specs.List.{slice_range}
-use Rattle.std.proofs.lemmas.Bool.{eq-eqb, ne_eqb}
+use Rattle.std.specs.List.{list_all, slice_range}
+use Rattle.std.proofs.lemmas.Bool.{and_parts, eq-eqb, ne_eqb}
 use Rattle.std.proofs.lemmas.List.Elements.{All-head, All-tail}
 use Rattle.std.proofs.lemmas.Option.{slice_get-get_or}
 use Rattle.gate_table.specs.declared.gate.Gate.{Gate}
@@ -15,7 +15,10 @@ use Rattle.step_model.specs.Listing.{Reset, Word, word_of_terms}
 use Rattle.stim_parser.specs.declared.operation.Operation.{Operation}
 use Rattle.stim_parser.specs.declared.operation.Operation.TheVariants.{Applies, CorrelatedError, Measurement, MeasurementReset, PauliError, ProductMeasurement, QubitReset}
 use Rattle.stim_parser.specs.declared.target.Target.{Target}
-use Rattle.stim_parser.specs.Limits.{are_products, products_of, qubit_of}
+use Rattle.stim_parser.specs.declared.table.Keyword.TheVariants.{Does}
+use Rattle.stim_parser.specs.declared.target.Target.TheVariants.{Plain}
+use Rattle.stim_parser.specs.Instructions.{target_form}
+use Rattle.stim_parser.specs.Limits.{are_of_form, are_products, is_plain, is_plain_or_inverted, products_of, qubit_of}
 use Rattle.stim_parser.specs.Verdicts.{Instruction}
 use Rattle.circuit_walk.specs.declared.instruction_steps.InstructionSteps.{InstructionSteps}
 use Rattle.circuit_walk.specs.declared.letters.Letters.{Letters}
@@ -40,13 +43,22 @@ use Rattle.circuit_walk.specs.private.Taken.{IsFacing, IsTaken, measuring, pair_
 use Rattle.circuit_walk.proofs.LentLetters.{is_of, letter_fault_is, product_fault_is, small_of, small_part}
 use Rattle.circuit_walk.proofs.ProductPlaces.{place_within}
 use Rattle.circuit_walk.proofs.ProductWords.{slice_is, words_number}
-use Rattle.circuit_walk.proofs.StandLemmas.{fit_own, gate_behind, next_of_gate, own, own_place, place_of_own, products_of_form, second_there}
+use Rattle.circuit_walk.proofs.StandLemmas.{fit_own, gate_behind, measured_form, next_of_gate, own, own_place, place_of_own, products_of_form, reset_form, second_there, single_form}
 use Rattle.circuit_walk.proofs.StepLemmas.{collapse_at, numbered_at, of_each, pair_at}
 
 at_element : {X : Type 0} (P : X → Type 0) (xs : List X) (j : ℕ) (x : X) → All P xs → slice_get xs j ≡ Some x → P x
 at_element P [] j x h got = cc
 at_element P (y ∷ ys) zero x h got = let same : y ≡ x = cc in subst P same (All-head P y ys h)
 at_element P (y ∷ ys) (suc j) x h got = at_element P ys j x (All-tail P y ys h) got
+
+passes_at : {X : Type 0} (p : X → Bool) (xs : List X) (j : ℕ) (x : X) → list_all p xs ≡ true → slice_get xs j ≡ Some x → p x ≡ true
+passes_at p [] j x h got = cc
+passes_at p (y ∷ ys) zero x h got = let same : y ≡ x = cc in subst (λ z. p z ≡ true) same (and_parts (p y) (list_all p ys) h).0
+passes_at p (y ∷ ys) (suc j) x h got = passes_at p ys j x (and_parts (p y) (list_all p ys) h).1 got
+
+plain_too : (t : Target) → is_plain t ≡ true → is_plain_or_inverted t ≡ true
+plain_too (Plain q) h = refl
+plain_too t h = cc
 
 same_counts : (a b : Counts) → a.records ≡ b.records → a.collapses ≡ b.collapses → a.faults ≡ b.faults → a ≡ b
 same_counts a b records collapses faults =
@@ -82,6 +94,19 @@ module _ (s : InstructionSteps) (c : Counts) (f : IsFacing s c) where
   -- the qubit of a target is within the limit
   pub small_at : (j : ℕ) (t : Target) → slice_get s.targets.now j ≡ Some t → HasSmallQubit t
   small_at j t at = at_element HasSmallQubit ts j t (fit_own f.instruction s _ f.stands.steps refl).small at
+
+  -- the target at the place is a qubit, where the operation takes no others
+  form_of : (o : Operation) → s.operation ≡ o → are_of_form (target_form (Does o)) ts ≡ true
+  form_of o is = (fit_own f.instruction s o f.stands.steps is).form
+
+  pub own_single : (g : Gate) → s.operation ≡ Applies g → arity_of g ≡ 1 → (t : Target) → slice_get s.targets.now s.at ≡ Some t → is_plain_or_inverted t ≡ true
+  own_single g is one t at = plain_too t (passes_at is_plain ts s.at t (single_form g ts one (form_of (Applies g) is)) at)
+
+  pub own_reset : (l : Letter) → s.operation ≡ QubitReset l → (t : Target) → slice_get s.targets.now s.at ≡ Some t → is_plain_or_inverted t ≡ true
+  own_reset l is t at = plain_too t (passes_at is_plain ts s.at t (reset_form l ts (form_of (QubitReset l) is)) at)
+
+  pub own_measured : (l : Letter) (reset : Bool) → s.operation ≡ measuring reset l → (t : Target) → slice_get s.targets.now s.at ≡ Some t → is_plain_or_inverted t ≡ true
+  own_measured l reset is t at = passes_at is_plain_or_inverted ts s.at t (measured_form l reset ts (form_of (measuring reset l) is)) at
 
   -- ---- gates
 

@@ -1,22 +1,13 @@
 //! The steps that one instruction makes, one after another: of each target, of each pair, of each product, or one of all.
 
-ghost use Rattle.std.specs.Prelude.{◌≡◌, ◌+◌, ◌<◌, ◌≤◌, ◌^◌, ℕ, All, IfSome, [], false, true, Some, if◌then◌else◌, None, length, option_map, slice_get, slice_index_or, take};
-ghost use Rattle.circuit_walk.specs.Before.{Before};
+ghost use Rattle.std.specs.Prelude.{◌≡◌, ◌+◌, ◌<◌, ◌^◌, IfSome, Some, if◌then◌else◌, None, length, option_map, slice_get};
 ghost use Rattle.circuit_walk.specs.Makes.{makes_faults};
-ghost use Rattle.circuit_walk.specs.Meaning.{new_steps};
-ghost use Rattle.circuit_walk.specs.Refusals.{reaches_far};
-ghost use Rattle.circuit_walk.specs.Small.{HasSmallQubit};
-ghost use Rattle.circuit_walk.specs.Steps.{listed, measured, number_of};
-ghost use Rattle.circuit_walk.specs.StepsMade.{pair_made};
-ghost use Rattle.circuit_walk.specs.Targets.{is_inverted};
-ghost use Rattle.circuit_walk.specs.private.InstructionSteps.{IsAt, AreStepsOf, Stands, counts_behind, end_of, has_argument, made_by, product_made, product_words, recorded_at, words_length};
-ghost use Rattle.circuit_walk.specs.private.Names.{IsNext, IsOf, Lends, NamesNext};
-ghost use Rattle.step_model.specs.Listing.{Collapse, Fault, One, Reset};
-ghost use Rattle.stim_parser.specs.Limits.{are_products, products_of, qubit_of};
+ghost use Rattle.circuit_walk.specs.Steps.{number_of};
+ghost use Rattle.circuit_walk.specs.private.InstructionSteps.{AreStepsOf, counts_behind, end_of, has_argument};
+ghost use Rattle.circuit_walk.specs.private.Names.{IsNext};
 ghost use Rattle.stim_parser.specs.Circuits.{Fits};
 ghost use Rattle.stim_parser.specs.Kept.{instruction_in};
-ghost use Rattle.stim_parser.specs.Verdicts.{Instruction};
-ghost use Rattle.stim_parser.specs.declared.operation.Operation.TheVariants.{CorrelatedError, PauliError, ProductMeasurement};
+ghost use Rattle.stim_parser.specs.declared.operation.Operation.TheVariants.{ProductMeasurement};
 
 use crate::step::{Counts, FaultName};
 use crate::steps_back::makes_records;

@@ -1,10 +1,10 @@
 //! Letters at qubits, lent from the targets of an instruction.
 
-ghost use Rattle.std.specs.Prelude.{◌≡◌, [], ◌∷◌, All, IfSome, MatchOption};
+ghost use Rattle.std.specs.Prelude.{◌≡◌, [], ◌∷◌, true, All, IfSome, MatchOption};
 ghost use Rattle.circuit_walk.specs.Letters.{AreSmall, behind_star, letters_in, named_letter};
 ghost use Rattle.circuit_walk.specs.Small.{HasSmallQubit};
-ghost use Rattle.circuit_walk.specs.Targets.{pauli_letter};
-ghost use Rattle.stim_parser.specs.Limits.{qubit_of};
+ghost use Rattle.circuit_walk.specs.Targets.{is_inverted, pauli_letter};
+ghost use Rattle.stim_parser.specs.Limits.{is_plain_or_inverted, qubit_of};
 
 use pauli_word::Letter;
 use step_model::Term;
@@ -25,6 +25,17 @@ pub(crate) fn qubit_of(target: TargetWord) -> u32
     ensures { result ≡ qubit_of target }
 {
     target.qubit() as u32
+}
+
+/// The qubit of a target that is one, and whether a `!` stands before it.
+#[inline(always)]
+pub(crate) fn own_qubit(target: TargetWord) -> (u32, bool)
+    requires small { HasSmallQubit target }
+    requires own { is_plain_or_inverted target ≡ true }
+    ensures qubit { result.0 ≡ qubit_of target }
+    ensures inverted { result.1 ≡ is_inverted target }
+{
+    (target.number() as u32, target.plain().is_none())
 }
 
 /// The letter of a target.

@@ -18,7 +18,7 @@ fn is_star(target: TargetWord) -> bool
 
 /// Whether a target has a `!`.
 #[inline(always)]
-pub(crate) fn is_inverted(target: TargetWord) -> bool
+fn is_inverted(target: TargetWord) -> bool
     ensures { result ≡ is_inverted target }
 {
     match target.get() {

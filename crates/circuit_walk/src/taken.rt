@@ -9,9 +9,9 @@ ghost use Rattle.gate_table.specs.Images.{arity_of};
 ghost use Rattle.stim_parser.specs.declared.operation.Operation.TheVariants.{Applies, CorrelatedError, PauliError, ProductMeasurement, QubitReset};
 
 use crate::instruction_steps::InstructionSteps;
-use crate::letters::{Letters, qubit_of};
+use crate::letters::{Letters, own_qubit};
 use crate::pairs::{PairStep, pair_step};
-use crate::products::{is_inverted, is_product_inverted, product_behind};
+use crate::products::{is_product_inverted, product_behind};
 use crate::step::{Counts, FaultName, Step};
 use gate_table::Gate;
 use pauli_word::Letter;
@@ -54,7 +54,7 @@ impl<'c> InstructionSteps<'c> {
     {
         // The counts are only spoken of.
         let _counts = counts;
-        qubit_of(self.target(self.at))
+        own_qubit(self.target(self.at)).0
     }
 
     /// The step of a pair of a gate of two qubits.
@@ -83,10 +83,10 @@ impl<'c> InstructionSteps<'c> {
               counts = counts_behind ProductMeasurement self.now.flips counts;
             }) }
     {
-        let target = self.target(self.at);
+        let (qubit, inverted) = own_qubit(self.target(self.at));
         QubitOutcome {
-            qubit: qubit_of(target),
-            inverted: is_inverted(target),
+            qubit,
+            inverted,
             flip: self.flip(counts),
         }
     }
@@ -103,7 +103,7 @@ impl<'c> InstructionSteps<'c> {
               counts = record counts { collapses = counts.collapses + 1 };
             }) }
     {
-        qubit_of(self.target(self.at))
+        own_qubit(self.target(self.at)).0
     }
 
     /// What the measurement of a product sees.

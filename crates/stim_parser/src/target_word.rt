@@ -1,7 +1,7 @@
 //! A target in one machine word.
 
-ghost use Rattle.std.specs.Prelude.{◌≡◌, ◌<◌, false, MatchOption};
-ghost use Rattle.stim_parser.specs.Limits.{is_plain, qubit_of};
+ghost use Rattle.std.specs.Prelude.{◌≡◌, ◌<◌, false, true, MatchOption};
+ghost use Rattle.stim_parser.specs.Limits.{is_plain, is_plain_or_inverted, qubit_of};
 ghost use Rattle.stim_parser.specs.private.Words.{HasRoom, letter_code, letter_in, named, word_of};
 
 use crate::target::Target;
@@ -123,6 +123,14 @@ impl TargetWord {
         } else {
             None
         }
+    }
+
+    /// The number in the word: the qubit of a target that is one, with a `!` before it or not.
+    #[inline(always)]
+    pub fn number(self) -> u64
+        ensures { is_plain_or_inverted self ≡ true → result ≡ qubit_of self }
+    {
+        self.word / 16
     }
 
     /// The qubit that the target names; 0 where it names none.
