@@ -8,4 +8,5 @@ pub mod BlockLemmas
 pub mod SpanLemmas
 pub mod EffectLemmas
 pub mod HeldLineLemmas
+pub mod KeptWordLemmas
 pub mod ShortLineLemmas

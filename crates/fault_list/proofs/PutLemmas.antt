@@ -1,10 +1,9 @@
 -- Bytes that are put into a buffer at some place.
-use Rattle.std.proofs.Common.{◌≡◌, ℕ, ◌+◌, ◌≤◌, List, [], ◌∷◌, ◌++◌, length, take, drop, Option, None, Some, length-append, length-take, sym, ap, ap₂, ◌∙◌, append_assoc, arith}
+use Rattle.std.proofs.Common.{◌≡◌, ℕ, ◌+◌, ◌≤◌, List, [], ◌∷◌, ◌++◌, length, take, drop, sym, ap, ap₂, ◌∙◌, append_assoc}
 use Rattle.std.specs.Prelude.{codes}
 use Rattle.std.proofs.Math.Seq.{take-append-add, length-take-le}
 use Rattle.std.proofs.lemmas.List.{take-append-le, take_at, take-take}
 use Rattle.fault_list.specs.private.KeptTexts.{probability_text}
-use Rattle.fault_list.specs.private.PutTexts.{Puts}
 
 -- the first of them, after what stood before that place
 pub put_within : (at k len : ℕ) (buffer bytes : List ℕ) → at ≤ length buffer → len ≤ length bytes → take (at + len) (take at buffer ++ (bytes ++ drop k (drop at buffer))) ≡ take at buffer ++ take len bytes
@@ -28,19 +27,9 @@ before_kept at end new old text after inside written =
     ∙ (ap (take at) written
     ∙ take_at (take at old) text at (length-take-le at old inside))
 
--- and it ends after that place
-pub ends_after : (at end : ℕ) (new old text : List ℕ) → at ≤ length old → take end new ≡ take at old ++ text → at ≤ end
-ends_after at end new old text inside written =
-    omega (arith, ap length written, length-append (take at old) text, length-take end new, length-take-le at old inside)
-
 -- so does what stood before an earlier place
 pub kept_before : (at end : ℕ) (new old : List ℕ) → at ≤ end → take end new ≡ take end old → take at new ≡ take at old
 kept_before at end new old after same = sym (take-take at end new after) ∙ (ap (take at) same ∙ take-take at end old after)
-
--- a text has as many bytes as that at most, and so as more
-pub puts_within : (most more at : ℕ) (text old new : List ℕ) (answer : Option ℕ) → most ≤ more → Puts most at text old new answer → Puts more at text old new answer
-puts_within most more at text old new None fewer puts = record { within = puts.within; written = puts.written; kept = puts.kept }
-puts_within most more at text old new (Some end) fewer puts = record { within = omega (arith, puts.within, fewer); written = puts.written; kept = puts.kept }
 
 -- the parts of a line, put one after another
 pub line_put : (before number effect : List ℕ) {first second third whole text known : List ℕ} → first ≡ before ++ number → second ≡ first ++ probability_text text → third ≡ second ++ effect → whole ≡ third ++ codes "\n" → text ≡ known → whole ≡ before ++ (number ++ codes " " ++ known ++ codes " " ++ effect ++ codes "\n")

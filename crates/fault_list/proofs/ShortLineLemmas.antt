@@ -1,11 +1,10 @@
 -- The word of letters at ascending qubits is their factors in their order.
 use Rattle.std.proofs.Common.{◌≡◌, ◌≢◌, ℕ, suc, inl, inr, ◌+◌, ◌-◌, ◌<◌, ◌≤◌, ◌^◌, true, false, List, [], ◌∷◌, ◌++◌, length, drop, get_or, refl, sym, ap, ap₂, ◌∙◌, arith}
-use Rattle.std.specs.Prelude.{Bool, codes, decimal, not, map, ◌⊎◌, if◌then◌else◌}
+use Rattle.std.specs.Prelude.{Bool, codes, decimal, not, map, if◌then◌else◌}
 use Rattle.std.specs.List.{flat_map, range_with_len}
-use Rattle.std.proofs.lemmas.Bool.{not-true, not-false}
+use Rattle.std.proofs.lemmas.Bool.{not-true}
 use Rattle.std.proofs.lemmas.Bool.Decides.{eqb_tells, leb_tells}
 use Rattle.std.proofs.lemmas.Fmt.{length-decimal-le}
-use Rattle.std.proofs.lemmas.List.{drop_more}
 use Rattle.std.proofs.lemmas.List.Concat.{flat_map-append}
 use Rattle.std.proofs.lemmas.List.Elements.{All-head, All-tail}
 use Rattle.pauli_word.specs.declared.letter.Letter.{Letter}
@@ -49,25 +48,7 @@ first_ordered from term terms h = elim (leb_tells (suc term.qubit) from) [
       first_acts from term terms (is_I term.letter) refl (omega (arith, after.1)) rest
 ]
 
--- the test, term by term
-pub ordered_until : (terms : List Term) (i from : ℕ) → i < length terms → ((term_at terms i).qubit < from) ⊎ (not (is_I (term_at terms i).letter) ≡ false) → is_ordered from (drop i terms) ≡ false
-ordered_until terms i from more stops =
-    let term = term_at terms i in
-    let rest = is_ordered (term.qubit + 1) (drop (i + 1) terms) in
-    ap (is_ordered from) (drop_more terms i no_term more)
-    ∙ elim stops [
-      | inl below ↦ elim (leb_tells (suc term.qubit) from) [
-        | inl tells ↦ ap (λ b. if b then false else if is_I term.letter then false else rest) tells.0
-        | inr after ↦ absurd (omega (arith, below, after.1))
-      ]
-      | inr none ↦ elim (leb_tells (suc term.qubit) from) [
-        | inl tells ↦ ap (λ b. if b then false else if is_I term.letter then false else rest) tells.0
-        | inr after ↦
-            ap (λ b. if b then false else if is_I term.letter then false else rest) after.0
-            ∙ ap (λ b. if b then false else rest) (not-false (is_I term.letter) none)
-      ]
-    ]
-
+-- the test of one term more
 pub ordered_next : (term : Term) (terms : List Term) (from : ℕ) → from ≤ term.qubit → not (is_I term.letter) ≡ true → is_ordered from (term ∷ terms) ≡ is_ordered (term.qubit + 1) terms
 ordered_next term terms from after acts =
     let rest = is_ordered (term.qubit + 1) terms in
@@ -77,11 +58,6 @@ ordered_next term terms from after acts =
           ap (λ b. if b then false else if is_I term.letter then false else rest) tells.0
           ∙ ap (λ b. if b then false else rest) (not-true (is_I term.letter) acts)
     ]
-
-pub ordered_more : (terms : List Term) (i from : ℕ) → i < length terms → from ≤ (term_at terms i).qubit → not (is_I (term_at terms i).letter) ≡ true → is_ordered from (drop i terms) ≡ is_ordered ((term_at terms i).qubit + 1) (drop (i + 1) terms)
-ordered_more terms i from more after acts =
-    ap (is_ordered from) (drop_more terms i no_term more)
-    ∙ ordered_next (term_at terms i) (drop (i + 1) terms) from after acts
 
 letter_in-other : (term : Term) (terms : List Term) (q : ℕ) → term.qubit ≢ q → letter_in (term ∷ terms) q ≡ letter_in terms q
 letter_in-other term terms q other = elim (eqb_tells term.qubit q) [

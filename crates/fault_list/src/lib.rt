@@ -4,6 +4,7 @@
 mod blocks;
 mod counter;
 mod factors;
+mod kept_word;
 mod letters;
 mod probability;
 mod put;

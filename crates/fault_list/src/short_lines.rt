@@ -10,6 +10,7 @@ ghost use Rattle.fault_list.specs.private.TermLetters.{is_ordered, starred_facto
 
 use crate::counter::Counter;
 use crate::factors::{put_factor, put_starred};
+use crate::kept_word::{KeptWord, WORD};
 use crate::letters::acts;
 use crate::probability::Probability;
 use crate::put::{put_byte, put_text};
@@ -19,17 +20,8 @@ use pauli_word::Letter;
 use std::alloc::Allocator;
 use step_model::Term;
 
-/// How many terms a short line has at most.
-const SHORT_TERMS: usize = 16;
-
-/// How long a short line is at most, with what is copied behind it.
-const LINE: usize = 256;
-
-/// How much room a factor is put in.
-const FACTOR: usize = 18;
-
-/// How long the word of a short line is at most: twelve bytes for each term.
-const WORD: usize = 192;
+/// How long a line is at most, with what is copied behind it: it has the word, a number and the text of a probability.
+pub(crate) const LINE: usize = WORD + 128;
 
 /// Texts of the lines before that those after them have again.
 #[derive(Drop)]
@@ -37,6 +29,7 @@ pub(crate) struct KeptTexts<'t, 'a> {
     number: Counter,
     probability: Probability<'t, 'a>,
     record: Counter,
+    word: KeptWord,
     pub(crate) names: QubitNames,
 }
 
@@ -49,6 +42,7 @@ impl<'t, 'a> KeptTexts<'t, 'a> {
             number: Counter::new(),
             probability: Probability::none(program.chances()),
             record: Counter::new(),
+            word: KeptWord::none(),
             names: QubitNames::new(program.qubits()),
         }
     }
@@ -87,10 +81,10 @@ fn put_effect<'t, 'a, A: Allocator + Copy>(
     program: &Program<'_, A>,
     fault: FoundFault<'_>,
 ) -> Option<usize>
-    requires room { at + WORD + 8 ≤ length buffer.old }
+    requires room { at + WORD ≤ length buffer.old }
     requires fault { IsFaultOf program.now fault }
     ensures same { texts.new.probability.chances ≡ texts.old.probability.chances }
-    ensures put { Puts (length buffer.old - (at + 6)) at
+    ensures put { Puts WORD at
         (effect_text program.now.listing.qubits
         (effect_at program.now.listing fault.entry.number))
         buffer.old buffer.new result }
@@ -98,7 +92,7 @@ fn put_effect<'t, 'a, A: Allocator + Copy>(
     program.well_formed();
     match fault.flips {
         Some(r) => Some(put_record(buffer, at, &mut texts.record, r)),
-        None => put_word(buffer, at, &texts.names, fault.letters),
+        None => put_word(buffer, at, &texts.names, &mut texts.word, fault.letters),
     }
 }
 
@@ -115,24 +109,30 @@ fn put_record(buffer: &mut [u8], at: usize, record: &mut Counter, r: u32) -> usi
 
 // Puts the word of some terms. That of one, as most words are, is written here.
 #[inline(always)]
-fn put_word(buffer: &mut [u8], at: usize, names: &QubitNames, terms: Letters<'_>) -> Option<usize>
-    requires room { at + WORD + 8 ≤ length buffer.old }
+fn put_word(
+    buffer: &mut [u8],
+    at: usize,
+    names: &QubitNames,
+    word: &mut KeptWord,
+    terms: Letters<'_>,
+) -> Option<usize>
+    requires room { at + WORD ≤ length buffer.old }
     requires small { AreSmall terms }
     ensures { (qubits : ℕ) → TermsFit qubits (letters_in terms.entry)
-        → Puts (length buffer.old - (at + 6)) at (word_text (word_of_terms qubits (letters_in terms.entry)))
+        → Puts WORD at (word_text (word_of_terms qubits (letters_in terms.entry)))
         buffer.old buffer.new result }
 {
     let (first, more) = terms.split_first()?;
     match more.split_first() {
         None => put_lone(buffer, at, names, first),
-        Some(_) => put_some(buffer, at, names, terms),
+        Some(_) => put_some(buffer, at, names, word, terms),
     }
 }
 
 // The same of one term. It answers none where that is I.
 #[inline(always)]
 fn put_lone(buffer: &mut [u8], at: usize, names: &QubitNames, term: Term) -> Option<usize>
-    requires { at + WORD + 8 ≤ length buffer.old }
+    requires { at + WORD ≤ length buffer.old }
     ensures { (qubits : ℕ) → TermsFit qubits (term ∷ [])
         → Puts WORD at (word_text (word_of_terms qubits (term ∷ []))) buffer.old buffer.new result }
 {
@@ -145,11 +145,17 @@ fn put_lone(buffer: &mut [u8], at: usize, names: &QubitNames, term: Term) -> Opt
 // The same of any terms. Two, as most words of more have, are written with no loop. It stands apart, so that the loop over errors
 // of one letter holds only what these need.
 #[inline(never)]
-fn put_some(buffer: &mut [u8], at: usize, names: &QubitNames, terms: Letters<'_>) -> Option<usize>
-    requires room { at + WORD + 8 ≤ length buffer.old }
+fn put_some(
+    buffer: &mut [u8],
+    at: usize,
+    names: &QubitNames,
+    word: &mut KeptWord,
+    terms: Letters<'_>,
+) -> Option<usize>
+    requires room { at + WORD ≤ length buffer.old }
     requires small { AreSmall terms }
     ensures { (qubits : ℕ) → TermsFit qubits (letters_in terms.entry)
-        → Puts (length buffer.old - (at + 6)) at (word_text (word_of_terms qubits (letters_in terms.entry)))
+        → Puts WORD at (word_text (word_of_terms qubits (letters_in terms.entry)))
         buffer.old buffer.new result }
 {
     let (first, more) = terms.split_first()?;
@@ -157,7 +163,7 @@ fn put_some(buffer: &mut [u8], at: usize, names: &QubitNames, terms: Letters<'_>
         None => put_lone(buffer, at, names, first),
         Some((second, rest)) => match rest.split_first() {
             None => put_two(buffer, at, names, first, second),
-            Some(_) => put_more(buffer, at, names, first, more),
+            Some(_) => word.put(buffer, at, names, terms),
         },
     }
 }
@@ -171,95 +177,35 @@ fn put_two(
     first: Term,
     second: Term,
 ) -> Option<usize>
-    requires { at + WORD + 8 ≤ length buffer.old }
+    requires room { at + WORD ≤ length buffer.old }
     ensures { (qubits : ℕ) → TermsFit qubits (first ∷ second ∷ [])
         → Puts WORD at (word_text (word_of_terms qubits (first ∷ second ∷ [])))
         buffer.old buffer.new result }
 {
     if second.qubit < first.qubit {
-        put_ordered(buffer, at, names, &[second, first])
+        put_ordered(buffer, at, names, second, first)
     } else {
-        put_ordered(buffer, at, names, &[first, second])
+        put_ordered(buffer, at, names, first, second)
     }
 }
 
-// The same of one term and those behind it, letter by letter. It answers none where their qubits don't ascend, where one of them
-// is I, or where there is no room for all.
-fn put_more(
+// The same of two terms that are to stand at ascending qubits. It answers none where they don't, or where one of them is I.
+#[inline(always)]
+fn put_ordered(
     buffer: &mut [u8],
     at: usize,
     names: &QubitNames,
     first: Term,
-    more: Letters<'_>,
+    second: Term,
 ) -> Option<usize>
-    requires room { at + WORD + 8 ≤ length buffer.old }
-    requires small { AreSmall more }
-    ensures { (qubits : ℕ) → TermsFit qubits (first ∷ letters_in more.entry)
-        → Puts (length buffer.old - (at + 6)) at (word_text (word_of_terms qubits (first ∷ letters_in more.entry)))
+    requires room { at + WORD ≤ length buffer.old }
+    ensures { (qubits : ℕ) → TermsFit qubits (first ∷ second ∷ [])
+        → Puts WORD at (word_text (word_of_terms qubits (first ∷ second ∷ [])))
         buffer.old buffer.new result }
 {
-    if !acts(first.letter) {
+    if second.qubit <= first.qubit || !acts(first.letter) || !acts(second.letter) {
         return None;
     }
-    let mut end = put_factor(buffer, at, names, first);
-    let mut last = first.qubit;
-    let mut left = more;
-    while let Some((term, rest)) = left.split_first() {
-        if term.qubit <= last || !acts(term.letter) || buffer.len() - end < FACTOR {
-            return None;
-        }
-        end = put_starred(buffer, end, names, term);
-        last = term.qubit;
-        left = rest;
-    }
-    Some(end)
-}
-
-// Puts the word of terms at ascending qubits. It answers none where there are no terms, where their qubits don't ascend,
-// or where one of them is I.
-#[inline(always)]
-fn put_ordered(buffer: &mut [u8], at: usize, names: &QubitNames, terms: &[Term]) -> Option<usize>
-    requires room { at + WORD + 8 ≤ length buffer.old }
-    requires few { length terms.now ≤ SHORT_TERMS }
-    ensures { (qubits : ℕ) → TermsFit qubits terms.now
-        → Puts WORD at (word_text (word_of_terms qubits terms.now)) buffer.old buffer.new result }
-{
-    if !is_ordered(terms) {
-        return None;
-    }
-    if let [first, more @ ..] = terms {
-        let end = put_factor(buffer, at, names, *first);
-        Some(put_factors(buffer, end, names, more))
-    } else {
-        None
-    }
-}
-
-// Whether terms stand at ascending qubits, and none is I.
-#[inline(always)]
-fn is_ordered(terms: &[Term]) -> bool
-    ensures { result ≡ is_ordered 0 terms.now }
-{
-    let mut from = 0;
-    for term in terms {
-        if (term.qubit as u64) < from || !acts(term.letter) {
-            return false;
-        }
-        from = term.qubit as u64 + 1;
-    }
-    true
-}
-
-// Puts factors, each after `*`.
-#[inline(always)]
-fn put_factors(buffer: &mut [u8], at: usize, names: &QubitNames, terms: &[Term]) -> usize
-    requires room { at + length terms.now * 12 + 6 ≤ length buffer.old }
-    ensures within { result ≤ at + length terms.now * 12 }
-    ensures written { take result buffer.new ≡ take at buffer.old ++ starred_factors terms.now }
-{
-    let mut end = at;
-    for term in terms {
-        end = put_starred(buffer, end, names, *term);
-    }
-    end
+    let end = put_factor(buffer, at, names, first);
+    Some(put_starred(buffer, end, names, second))
 }

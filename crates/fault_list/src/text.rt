@@ -10,7 +10,7 @@ ghost use Rattle.fault_list.specs.private.HeldLines.{PushesSome};
 
 use crate::blocks::ROOM as BLOCK_ROOM;
 use crate::qubit_names::QubitNames;
-use crate::short_lines::{KeptTexts, put_line};
+use crate::short_lines::{KeptTexts, LINE, put_line};
 use crate::word::{SPAN, write_word};
 use circuit_walk::{FaultTaker, FoundFault, Program, take_faults};
 use itoa::Buffer;
@@ -56,9 +56,8 @@ pub fn write<'a, A: Allocator + Copy, W: Sink>(
     out.finish(sink)
 }
 
-/// How long a buffer for lines is: behind the last place where a line begins there is room for one with a letter at each of
-/// 4,096 qubits.
-const ROOM: usize = 45056;
+/// How long a buffer for lines is: behind the last place where a line begins there is room for one.
+const ROOM: usize = LAST_LINE + LINE;
 
 /// Where a short line begins in it at most: lines go out together once they are longer than what `Pieces` holds back, so
 /// that they aren't copied there.

@@ -1,5 +1,6 @@
 //! A target in one machine word.
 
+ghost use Rattle.std.specs.Bool.{Decides};
 ghost use Rattle.std.specs.Prelude.{◌≡◌, ◌<◌, false, true, MatchOption};
 ghost use Rattle.stim_parser.specs.Limits.{is_plain, is_plain_or_inverted, qubit_of};
 ghost use Rattle.stim_parser.specs.private.Words.{HasRoom, letter_code, letter_in, named, word_of};
@@ -142,5 +143,13 @@ impl TargetWord {
             2 | 3 => 0,
             _ => self.word / 16,
         }
+    }
+
+    /// Whether this is the word of the same target as another.
+    #[inline(always)]
+    pub fn is(self, other: TargetWord) -> bool
+        ensures { Decides result (self ≡ other) }
+    {
+        self.word == other.word
     }
 }

@@ -1,7 +1,11 @@
 -- Texts that are kept at the start of a fixed number of bytes. (This project's own.)
-use Rattle.std.specs.Prelude.{◌≡◌, ◌<◌, ◌≤◌, ℕ, List, [], ◌∷◌, ◌++◌, codes, decimal, length, take}
+use Rattle.std.specs.Prelude.{◌≡◌, ◌<◌, ◌≤◌, ℕ, List, [], ◌∷◌, ◌++◌, Option, Some, codes, decimal, length, take}
 use Rattle.step_model.specs.declared.chances.ChanceText.{ChanceText}
+use Rattle.step_model.specs.declared.step.Term.{Term}
 use Rattle.step_model.specs.Chances.{chance_at}
+use Rattle.step_model.specs.Listing.{word_of_terms}
+use Rattle.step_model.specs.WellFormed.{TermsFit}
+use Rattle.fault_list.specs.FaultLines.{word_text}
 
 -- the first bytes are the digits of a number
 pub record HasDigits (number len : ℕ) (bytes : List ℕ) : Type 0 where
@@ -27,3 +31,8 @@ pub record HasProbability (chances : List ChanceText) (number len : ℕ) (bytes 
 pub record KeptProbability : Type 0 where
   pub chances : List ChanceText
   pub number : ℕ
+
+-- the first bytes are the text of the word that letters make, where they are kept
+pub record HasWord (letters : Option (List Term)) (len : ℕ) (bytes : List ℕ) : Type 0 where
+  pub within : len ≤ 24704
+  pub text : (terms : List Term) (qubits : ℕ) → letters ≡ Some terms → TermsFit qubits terms → take len bytes ≡ word_text (word_of_terms qubits terms)

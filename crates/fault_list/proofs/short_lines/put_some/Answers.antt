@@ -1,41 +1,28 @@
--- The words of one term, of two and of more.
-use Rattle.std.proofs.Common.{◌≡◌, ◌+◌, ◌-◌, ◌≤◌, [], ◌∷◌, length, sym, ap, subst, ◌∙◌, arith}
+-- The words of one term and of two.
+use Rattle.std.proofs.Common.{◌≡◌, [], ◌∷◌, sym, ap, subst, ◌∙◌}
 use Rattle.step_model.specs.Listing.{word_of_terms}
 use Rattle.step_model.specs.WellFormed.{TermsFit}
 use Rattle.circuit_walk.specs.Letters.{letters_in}
 use Rattle.fault_list.specs.FaultLines.{word_text}
 use Rattle.fault_list.specs.private.PutTexts.{Puts}
-use Rattle.fault_list.proofs.PutLemmas.{puts_within}
 use Rattle.fault_list.proofs.short_lines.put_some.Goals as goal
 
 pub returns-in-None : goal.returns-in-None
 returns-in-None c = λ qubits fit.
     let first = c.in_ok-first.first in
-    let most = length c.args.buffer.now - (c.args.at + 6) in
     let parts : letters_in c.args.terms ≡ first ∷ [] = c.in_ok-first.ensures.letters ∙ ap (λ terms. first ∷ terms) c.in-None.ensures.letters in
-    let room : 192 ≤ most = omega (arith, c.requires.room) in
-    subst (λ terms. Puts most c.args.at (word_text (word_of_terms qubits terms)) c.args.buffer.now c.put_lone.new.buffer c.put_lone.result)
+    subst (λ terms. Puts 24704 c.args.at (word_text (word_of_terms qubits terms)) c.args.buffer.now c.put_lone.new.buffer c.put_lone.result)
     (sym parts)
-    (puts_within 192 most c.args.at _ c.args.buffer.now c.put_lone.new.buffer c.put_lone.result room (c.put_lone.ensures qubits (subst (TermsFit qubits) parts fit)))
+    (c.put_lone.ensures qubits (subst (TermsFit qubits) parts fit))
 
 pub returns-in-None-split_first : goal.returns-in-None-split_first
 returns-in-None-split_first c = λ qubits fit.
     let first = c.in_ok-first.first in
     let second = c.in-Some.second in
-    let most = length c.args.buffer.now - (c.args.at + 6) in
     let parts : letters_in c.args.terms ≡ first ∷ second ∷ [] =
     c.in_ok-first.ensures.letters
     ∙ (ap (λ terms. first ∷ terms) c.in-Some.ensures.letters
     ∙ ap (λ terms. first ∷ second ∷ terms) c.in-None-split_first.ensures.letters) in
-    let room : 192 ≤ most = omega (arith, c.requires.room) in
-    subst (λ terms. Puts most c.args.at (word_text (word_of_terms qubits terms)) c.args.buffer.now c.put_two.new.buffer c.put_two.result)
+    subst (λ terms. Puts 24704 c.args.at (word_text (word_of_terms qubits terms)) c.args.buffer.now c.put_two.new.buffer c.put_two.result)
     (sym parts)
-    (puts_within 192 most c.args.at _ c.args.buffer.now c.put_two.new.buffer c.put_two.result room (c.put_two.ensures qubits (subst (TermsFit qubits) parts fit)))
-
-pub returns-in-Some-split_first : goal.returns-in-Some-split_first
-returns-in-Some-split_first c = λ qubits fit.
-    let most = length c.args.buffer.now - (c.args.at + 6) in
-    let parts = c.in_ok-first.ensures.letters in
-    subst (λ terms. Puts most c.args.at (word_text (word_of_terms qubits terms)) c.args.buffer.now c.put_more.new.buffer c.put_more.result)
-    (sym parts)
-    (c.put_more.ensures qubits (subst (TermsFit qubits) parts fit))
+    (c.put_two.ensures qubits (subst (TermsFit qubits) parts fit))

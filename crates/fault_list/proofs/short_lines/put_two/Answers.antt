@@ -13,6 +13,6 @@ returns-then-second-first c = λ qubits fit.
     let P = λ (term : Term). term.qubit < qubits in
     let one = All-head P first (second ∷ []) fit in
     let two = All-head P second [] (All-tail P first (second ∷ []) fit) in
-    subst (λ w. Puts 192 c.args.at (word_text w) c.args.buffer.now c.put_ordered.new.buffer c.put_ordered.result)
+    subst (λ w. Puts 24704 c.args.at (word_text w) c.args.buffer.now c.put_ordered.new.buffer c.put_ordered.result)
     (two_swapped qubits first second)
     (c.put_ordered.ensures qubits (All-cons P second (first ∷ []) two (All-cons P first [] one (All-nil P))))

@@ -1,19 +1,16 @@
 -- The word of one term.
-use Rattle.std.proofs.Common.{◌≡◌, ◌+◌, ◌-◌, ◌≤◌, [], ◌∷◌, length, sym, ap, subst, ◌∙◌, arith}
+use Rattle.std.proofs.Common.{◌≡◌, [], ◌∷◌, sym, ap, subst, ◌∙◌}
 use Rattle.step_model.specs.Listing.{word_of_terms}
 use Rattle.step_model.specs.WellFormed.{TermsFit}
 use Rattle.circuit_walk.specs.Letters.{letters_in}
 use Rattle.fault_list.specs.FaultLines.{word_text}
 use Rattle.fault_list.specs.private.PutTexts.{Puts}
-use Rattle.fault_list.proofs.PutLemmas.{puts_within}
 use Rattle.fault_list.proofs.short_lines.put_word.Goals as goal
 
 pub returns-in-None : goal.returns-in-None
 returns-in-None c = λ qubits fit.
     let first = c.in_ok-first.first in
-    let most = length c.args.buffer.now - (c.args.at + 6) in
     let parts : letters_in c.args.terms ≡ first ∷ [] = c.in_ok-first.ensures.letters ∙ ap (λ terms. first ∷ terms) c.in-None.ensures.letters in
-    let room : 192 ≤ most = omega (arith, c.requires.room) in
-    subst (λ terms. Puts most c.args.at (word_text (word_of_terms qubits terms)) c.args.buffer.now c.put_lone.new.buffer c.put_lone.result)
+    subst (λ terms. Puts 24704 c.args.at (word_text (word_of_terms qubits terms)) c.args.buffer.now c.put_lone.new.buffer c.put_lone.result)
     (sym parts)
-    (puts_within 192 most c.args.at _ c.args.buffer.now c.put_lone.new.buffer c.put_lone.result room (c.put_lone.ensures qubits (subst (TermsFit qubits) parts fit)))
+    (c.put_lone.ensures qubits (subst (TermsFit qubits) parts fit))
