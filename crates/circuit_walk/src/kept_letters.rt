@@ -51,7 +51,8 @@ impl KeptLetters {
         }
         let mut same = true;
         for at in 0..kept.len() {
-            same = same && kept[at].is(others[at]);
+            let is = kept[at].is(others[at]);
+            same = same && is;
         }
         same
     }

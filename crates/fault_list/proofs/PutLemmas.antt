@@ -1,8 +1,9 @@
 -- Bytes that are put into a buffer at some place.
-use Rattle.std.proofs.Common.{◌≡◌, ℕ, ◌+◌, ◌≤◌, List, [], ◌∷◌, ◌++◌, length, take, drop, sym, ap, ap₂, ◌∙◌, append_assoc}
+use Rattle.std.proofs.Common.{◌≡◌, ℕ, ◌+◌, ◌-◌, ◌≤◌, List, [], ◌∷◌, ◌++◌, length, take, drop, length-append, length-take, sym, ap, ap₂, ◌∙◌, append_assoc, arith, rules}
 use Rattle.std.specs.Prelude.{codes}
 use Rattle.std.proofs.Math.Seq.{take-append-add, length-take-le}
-use Rattle.std.proofs.lemmas.List.{take-append-le, take_at, take-take}
+use Rattle.std.proofs.lemmas.List.{take-append-le, take_at, take-take, drop_at}
+use Rattle.std.proofs.lemmas.Slice.{between_is}
 use Rattle.fault_list.specs.private.KeptTexts.{probability_text}
 
 -- the first of them, after what stood before that place
@@ -26,6 +27,17 @@ before_kept at end new old text after inside written =
     sym (take-take at end new after)
     ∙ (ap (take at) written
     ∙ take_at (take at old) text at (length-take-le at old inside))
+
+-- and it ends after that place
+pub ends_after : (at end : ℕ) (new old text : List ℕ) → at ≤ length old → take end new ≡ take at old ++ text → at ≤ end
+ends_after at end new old text inside written =
+    omega (arith, ap length written, length-append (take at old) text, length-take end new, length-take-le at old inside)
+
+-- what was put is the text
+pub text_between : (at end : ℕ) (new old text : List ℕ) → at ≤ length old → take end new ≡ take at old ++ text → take (end - at) (drop at new) ≡ text
+text_between at end new old text inside written =
+    let cut : take (end - at) (drop at new) ≡ drop at (take end new) = search (rules, between_is) in
+    cut ∙ (ap (drop at) written ∙ drop_at (take at old) text at (length-take-le at old inside))
 
 -- so does what stood before an earlier place
 pub kept_before : (at end : ℕ) (new old : List ℕ) → at ≤ end → take end new ≡ take end old → take at new ≡ take at old

@@ -1,5 +1,5 @@
 //! The text of a word of many letters, kept for the faults that follow: in a block the same instruction makes it at each turn.
-ghost use Rattle.std.specs.Prelude.{◌≡◌, ◌≤◌, ◌+◌, ℕ, IfSome, Some, length, take, true};
+ghost use Rattle.std.specs.Prelude.{◌≡◌, ◌≤◌, ◌+◌, ℕ, IfSome, length};
 ghost use Rattle.circuit_walk.specs.Letters.{AreSmall, letters_in};
 ghost use Rattle.step_model.specs.Listing.{word_of_terms};
 ghost use Rattle.step_model.specs.WellFormed.{TermsFit};
@@ -13,13 +13,16 @@ use crate::put::put_text;
 use crate::qubit_names::QubitNames;
 use circuit_walk::{KeptLetters, Letters};
 
-/// How long the text of a kept word is at most: one with a letter at each of 4,096 qubits has room.
+/// How long the text of a word is at most: one with a letter at each of 4,096 qubits has room.
 pub(crate) const WORD: usize = 24704;
+
+/// How long a text is at most that isn't kept, since it is put as quickly again.
+const SHORT: usize = 64;
 
 /// How much room a factor is put in.
 const FACTOR: usize = 18;
 
-/// The text of the word that some letters make, and these letters; none where there was none yet, or where the last one wasn't put.
+/// The text of the last long word that was put, and the letters that make it; none where there was no such word yet.
 #[derive(Drop)]
 pub(crate) struct KeptWord {
     letters: KeptLetters,
@@ -38,7 +41,7 @@ impl KeptWord {
         }
     }
 
-    /// Puts the word of some terms at `at`, and answers where it ends; none where it isn't kept then.
+    /// Puts the word of some terms at `at`, and answers where it ends. It answers none where `put_letters` does.
     #[inline(always)]
     pub(crate) fn put(
         &mut self,
@@ -52,64 +55,58 @@ impl KeptWord {
         ensures { (qubits : ℕ) → TermsFit qubits (letters_in terms.entry)
             → Puts WORD at (word_text (word_of_terms qubits (letters_in terms.entry))) buffer.old buffer.new result }
     {
-        if !self.turn_to(names, terms) {
-            return None;
-        }
-        Some(put_text(buffer, at, &self.text[..self.len]))
-    }
-
-    // Turns to the word of some terms. Answers whether it is kept then.
-    #[inline(always)]
-    fn turn_to(&mut self, names: &QubitNames, terms: Letters<'_>) -> bool
-        requires { AreSmall terms }
-        ensures { result ≡ true → self.new.letters ≡ Some (letters_in terms.entry) }
-    {
         if self.letters.are(terms) {
-            return true;
+            return Some(put_text(buffer, at, &self.text[..self.len]));
         }
-        self.keep(names, terms)
+        let end = put_letters(buffer, at, names, terms)?;
+        if end - at > SHORT {
+            self.keep(&buffer[at..end], terms);
+        }
+        Some(end)
     }
 
-    // Keeps the word of some terms. Answers whether it is put.
+    // Keeps the text of the word of some terms.
     #[inline(never)]
-    fn keep(&mut self, names: &QubitNames, terms: Letters<'_>) -> bool
-        requires { AreSmall terms }
-        ensures { result ≡ true → self.new.letters ≡ Some (letters_in terms.entry) }
+    fn keep(&mut self, text: &[u8], terms: Letters<'_>)
+        requires room { length text.now ≤ WORD }
+        requires text { (qubits : ℕ) → TermsFit qubits (letters_in terms)
+            → text.now ≡ word_text (word_of_terms qubits (letters_in terms)) }
     {
-        match put_letters(&mut self.text, names, terms) {
-            Some(end) => {
-                self.len = end;
-                self.letters.keep(terms)
-            }
-            None => {
-                self.letters.forget();
-                false
-            }
+        if !self.letters.keep(terms) {
+            return;
         }
+        self.len = put_text(&mut self.text, 0, text);
     }
 }
 
-// Puts the word of some terms at the start of a text, letter by letter, and answers where it ends. It answers none where there is no
-// term, where their qubits don't ascend, where one of them is I, or where there is no room for all.
-fn put_letters(text: &mut [u8], names: &QubitNames, terms: Letters<'_>) -> Option<usize>
-    requires room { FACTOR ≤ length text.old }
+// Puts the word of some terms at `at`, letter by letter, and answers where it ends. It answers none where there is no term, where their
+// qubits don't ascend, where one of them is I, or where the text is too long.
+fn put_letters(
+    buffer: &mut [u8],
+    at: usize,
+    names: &QubitNames,
+    terms: Letters<'_>,
+) -> Option<usize>
+    requires room { at + WORD ≤ length buffer.old }
     requires small { AreSmall terms }
-    ensures within { IfSome result (λ end. end ≤ length text.new) }
-    ensures written { (qubits : ℕ) → TermsFit qubits (letters_in terms.entry)
-        → IfSome result (λ end. take end text.new ≡ word_text (word_of_terms qubits (letters_in terms.entry))) }
+    ensures from { IfSome result (λ end. at ≤ end) }
+    ensures within { IfSome result (λ end. end ≤ at + WORD) }
+    ensures put { (qubits : ℕ) → TermsFit qubits (letters_in terms.entry)
+        → Puts WORD at (word_text (word_of_terms qubits (letters_in terms.entry))) buffer.old buffer.new result }
 {
     let (first, more) = terms.split_first()?;
     if !acts(first.letter) {
         return None;
     }
-    let mut end = put_factor(text, 0, names, first);
+    let most = at + WORD - FACTOR;
+    let mut end = put_factor(buffer, at, names, first);
     let mut last = first.qubit;
     let mut left = more;
     while let Some((term, rest)) = left.split_first() {
-        if term.qubit <= last || !acts(term.letter) || text.len() - end < FACTOR {
+        if term.qubit <= last || !acts(term.letter) || end > most {
             return None;
         }
-        end = put_starred(text, end, names, term);
+        end = put_starred(buffer, end, names, term);
         last = term.qubit;
         left = rest;
     }

@@ -142,8 +142,8 @@ fn put_lone(buffer: &mut [u8], at: usize, names: &QubitNames, term: Term) -> Opt
     Some(put_factor(buffer, at, names, term))
 }
 
-// The same of any terms. Two, as most words of more have, are written with no loop. It stands apart, so that the loop over errors
-// of one letter holds only what these need.
+// The same of any terms. Two, as most words of more have, are written with no loop; a long word is kept. It stands apart, so that the
+// loop over errors of one letter holds only what these need.
 #[inline(never)]
 fn put_some(
     buffer: &mut [u8],

@@ -11,10 +11,12 @@ abbrev pub invariant-loop-term : goal.invariant-loop-term
 invariant-loop-term l =
     record {
       small : AreSmall l.left;
-      room : l.end + 6 ≤ length l.text;
+      after : l.at ≤ l.end;
+      within : l.end + 6 ≤ l.at + 24704;
+      kept : take l.at l.buffer ≡ take l.at l.fn.buffer;
       ordered : is_ordered (l.last + 1) (letters_in l.left) ≡ is_ordered 0 (letters_in l.terms);
       written : (qubits : ℕ) → TermsFit qubits (letters_in l.terms) → is_ordered 0 (letters_in l.terms) ≡ true
-          → take l.end l.text ++ starred_factors (letters_in l.left) ≡ word_text (word_of_terms qubits (letters_in l.terms));
+          → take l.end l.buffer ++ starred_factors (letters_in l.left) ≡ take l.at l.fn.buffer ++ word_text (word_of_terms qubits (letters_in l.terms));
     }
 
 abbrev pub decreases-loop-term : goal.decreases-loop-term
