@@ -35,7 +35,7 @@ pub(crate) fn clashing<S: TargetSet>(
     ensures len { length (S.bits set.new) ≡ length (S.bits set.old) }
     ensures spare { length (S.bits spare.new) ≡ length (S.bits spare.old) }
 {
-    if terms.len() <= FEW_LETTERS || set.kept().is_none() {
+    if terms.len() <= FEW_LETTERS || spare.kept().is_none() {
         return clashing_in_turn(columns, terms, set, spare);
     }
     let (front, back) = terms.split_at(terms.len() / 2);

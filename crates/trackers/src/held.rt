@@ -121,9 +121,6 @@ fn add_to_list<'a, A: Allocator + Copy>(
 {
     match spare {
         Held::List(spare) => list.add_some(other, spare),
-        Held::Row(row) => {
-            let mut spare = row.emptied();
-            list.add_some(other, &mut spare)
-        }
+        Held::Row(_) => list.add_alone(other),
     }
 }

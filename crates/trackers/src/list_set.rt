@@ -94,7 +94,7 @@ impl<'a, A: Allocator + Copy> ListSet<'a, A> {
     }
 
     /// Toggles each target of another set, which has some.
-    #[inline(never)]
+    #[inline(always)]
     pub(crate) fn add_some(&mut self, other: &Self, spare: &mut Self) -> Result<(), AllocError>
         requires other { length self.old ≡ length other.now }
         requires spare { length spare.old ≡ length self.old }
@@ -108,6 +108,17 @@ impl<'a, A: Allocator + Copy> ListSet<'a, A> {
             Some(len) => put_few(&mut self.items, &sum, len),
             None => add_many(&mut self.items, more, &mut spare.items),
         }
+    }
+
+    /// The same where no spare set is a list.
+    #[inline(never)]
+    pub(crate) fn add_alone(&mut self, other: &Self) -> Result<(), AllocError>
+        requires { length self.old ≡ length other.now }
+        ensures ok { OnOk result (self.new ≡ xor_rows self.old other.now) }
+        ensures len { length self.new ≡ length self.old }
+    {
+        let mut spare = ListSet::none(self.allocator(), self.targets());
+        self.add_some(other, &mut spare)
     }
 }
 

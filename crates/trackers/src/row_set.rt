@@ -83,6 +83,7 @@ impl<'a, A: Allocator + Copy> RowSet<'a, A> {
     }
 
     /// Puts a target in where it isn't there, and takes it out where it is.
+    #[inline(never)]
     pub(crate) fn toggle(&mut self, target: u32)
         requires { target < length self.old }
         ensures { self.new
@@ -98,6 +99,7 @@ impl<'a, A: Allocator + Copy> RowSet<'a, A> {
     }
 
     /// Toggles each target of a list.
+    #[inline(never)]
     pub(crate) fn add_list(&mut self, list: &ListSet<'a, A>) -> Result<(), AllocError>
         requires { length self.old ≡ length list.now }
         ensures ok { OnOk result (self.new ≡ xor_rows self.old list.now) }

@@ -67,6 +67,7 @@ impl<'a, A: Allocator + Copy> TargetSet for SparseSet<'a, A> {
         }
     }
 
+    #[inline(always)]
     fn toggle(&mut self, target: u32) -> Result<(), AllocError> {
         match &mut self.held {
             Held::List(list) => {
