@@ -42,6 +42,10 @@ impl<'a, A: Allocator + Copy> Held<'a, A> {
     {
         match self {
             Held::List(list) => {
+                // The sum of few is short.
+                if let Some(done) = list.add_few(other) {
+                    return done;
+                }
                 add_to_list(list, other, spare)?;
                 self.settle()
             }
@@ -106,8 +110,8 @@ impl<'a, A: Allocator + Copy> Held<'a, A> {
     }
 }
 
-// Toggles each target of a list, which has some, in another.
-#[inline(always)]
+// Toggles each target of a list in another.
+#[inline(never)]
 fn add_to_list<'a, A: Allocator + Copy>(
     list: &mut ListSet<'a, A>,
     other: &ListSet<'a, A>,
@@ -120,7 +124,7 @@ fn add_to_list<'a, A: Allocator + Copy>(
     ensures spare { length (bits_of spare.new) ≡ length (bits_of spare.old) }
 {
     match spare {
-        Held::List(spare) => list.add_some(other, spare),
+        Held::List(spare) => list.add_many(other, spare),
         Held::Row(_) => list.add_alone(other),
     }
 }

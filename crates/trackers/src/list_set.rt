@@ -1,5 +1,5 @@
 //! A set of targets as the list of those in it.
-ghost use Rattle.std.specs.Prelude.{◌≡◌, List, Bool, true, false, length, replicate, OnOk};
+ghost use Rattle.std.specs.Prelude.{◌≡◌, List, Bool, true, false, length, replicate, IfNone, IfSome, OnOk};
 ghost use Rattle.bit_rows.specs.Rows.{xor_rows};
 
 use crate::descending::{
@@ -78,6 +78,12 @@ impl<'a, A: Allocator + Copy> ListSet<'a, A> {
         self.items.as_slice().is_empty()
     }
 
+    /// Whether it takes no memory of its own. Then it has at most four targets.
+    #[inline(always)]
+    pub(crate) fn is_inline(&self) -> bool {
+        !self.items.spilled()
+    }
+
     /// Whether it takes more memory than a row of bits, and isn't short.
     #[inline(always)]
     pub(crate) fn is_long(&self) -> bool {
@@ -93,9 +99,25 @@ impl<'a, A: Allocator + Copy> ListSet<'a, A> {
         toggle_down(row, self.items.as_slice())
     }
 
-    /// Toggles each target of another set, which has some.
+    /// Toggles each target of another set where both have few, so that no spare set is needed. Otherwise it answers
+    /// nothing.
     #[inline(always)]
-    pub(crate) fn add_some(&mut self, other: &Self, spare: &mut Self) -> Result<(), AllocError>
+    pub(crate) fn add_few(&mut self, other: &Self) -> Option<Result<(), AllocError>>
+        requires { length self.old ≡ length other.now }
+        ensures few { IfSome result (λ done. OnOk done (self.new ≡ xor_rows self.old other.now)) }
+        ensures many { IfNone result (self.new ≡ self.old) }
+        ensures len { length self.new ≡ length self.old }
+    {
+        let more = other.items.as_slice();
+        let mut sum = [0; FEW];
+        match sum_few(self.items.as_slice(), more, &mut sum) {
+            Some(len) => Some(put_few(&mut self.items, &sum, len)),
+            None => None,
+        }
+    }
+
+    /// Toggles each target of another set, by way of a spare one.
+    pub(crate) fn add_many(&mut self, other: &Self, spare: &mut Self) -> Result<(), AllocError>
         requires other { length self.old ≡ length other.now }
         requires spare { length spare.old ≡ length self.old }
         ensures ok { OnOk result (self.new ≡ xor_rows self.old other.now) }
@@ -103,22 +125,17 @@ impl<'a, A: Allocator + Copy> ListSet<'a, A> {
         ensures spare { length spare.new ≡ length spare.old }
     {
         let more = other.items.as_slice();
-        let mut sum = [0; FEW];
-        match sum_few(self.items.as_slice(), more, &mut sum) {
-            Some(len) => put_few(&mut self.items, &sum, len),
-            None => add_many(&mut self.items, more, &mut spare.items),
-        }
+        add_many(&mut self.items, more, &mut spare.items)
     }
 
-    /// The same where no spare set is a list.
-    #[inline(never)]
+    /// The same where no spare set is at hand.
     pub(crate) fn add_alone(&mut self, other: &Self) -> Result<(), AllocError>
         requires { length self.old ≡ length other.now }
         ensures ok { OnOk result (self.new ≡ xor_rows self.old other.now) }
         ensures len { length self.new ≡ length self.old }
     {
         let mut spare = ListSet::none(self.allocator(), self.targets());
-        self.add_some(other, &mut spare)
+        self.add_many(other, &mut spare)
     }
 }
 
@@ -140,12 +157,10 @@ impl<'a, A: Allocator + Copy> TargetSet for ListSet<'a, A> {
         toggle_in(&mut self.items, target)
     }
 
-    #[inline(always)]
     fn add(&mut self, other: &Self, spare: &mut Self) -> Result<(), AllocError> {
-        if other.is_empty() {
-            Ok(())
-        } else {
-            self.add_some(other, spare)
+        match self.add_few(other) {
+            Some(done) => done,
+            None => self.add_many(other, spare),
         }
     }
 

@@ -71,6 +71,10 @@ impl<'a, A: Allocator + Copy> TargetSet for SparseSet<'a, A> {
     fn toggle(&mut self, target: u32) -> Result<(), AllocError> {
         match &mut self.held {
             Held::List(list) => {
+                // By one target more it doesn't get long.
+                if list.is_inline() {
+                    return list.toggle(target);
+                }
                 list.toggle(target)?;
                 self.held.settle()
             }
