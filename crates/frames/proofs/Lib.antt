@@ -1,5 +1,5 @@
 mod FrameSteps
-mod Passing
+mod LoneLemmas
 mod StillFrames
 mod TermWords
 pub mod Beside

@@ -1,5 +1,5 @@
 pub mod Flips
-pub mod Passes
+pub mod LoneFrames
 pub mod Followed
 pub mod Followers
 pub mod LaneLines

@@ -1,4 +1,4 @@
-ghost use Rattle.std.specs.Prelude.{◌≡◌, ◌<◌, ◌++◌, if◌then◌else◌, length, IfOk, OnOk, slice_set, false};
+ghost use Rattle.std.specs.Prelude.{◌≡◌, ℕ, ◌<◌, ◌++◌, if◌then◌else◌, length, replicate, IfOk, OnOk, slice_set, false};
 ghost use Rattle.pauli_word.specs.declared.letter.Letter.TheVariants.{I};
 ghost use Rattle.pauli_word.specs.Words.{anticommute, signed};
 ghost use Rattle.gate_table.specs.Images.{arity_of};
@@ -7,7 +7,7 @@ ghost use Rattle.circuit_walk.specs.Letters.{AreSmall, letters_in};
 ghost use Rattle.circuit_walk.specs.Steps.{listed};
 ghost use Rattle.circuit_walk.specs.Named.{IsStepOf};
 ghost use Rattle.step_model.specs.Frames.{begun, carried};
-ghost use Rattle.step_model.specs.Listing.{word_of_terms};
+ghost use Rattle.step_model.specs.Listing.{step_records, word_of_terms};
 ghost use Rattle.step_model.specs.WellFormed.{TermsFit};
 ghost use Rattle.frames.specs.private.Flips.{fed_back, flip_of, recorded_flips};
 
@@ -34,12 +34,35 @@ impl<A: Allocator + Copy> Model for Frame<A> {
 }
 
 impl<A: Allocator + Copy> Frame<A> {
-    /// A frame that begins as a word after `made` records, none of which it flips.
-    pub(crate) fn begin(alloc: A, word: Word<A>, made: usize) -> Result<Self, AllocError>
-        ensures { IfOk result (λ frame. frame ≡ begun word.letters made) }
+    /// A frame that begins as a word at the start.
+    pub(crate) fn begin(alloc: A, word: Word<A>) -> Self
+        ensures { result ≡ begun word.letters 0 }
     {
-        let records = Vec::from_elem(alloc, false, made)?;
-        Ok(Frame { word, records })
+        Frame {
+            word,
+            records: Vec::new(alloc),
+        }
+    }
+
+    /// Has it begin anew, as another word, with the records that there are.
+    pub(crate) fn begin_as(&mut self, word: Word<A>)
+        ensures { self.new ≡ record self.old { word = word.letters } }
+    {
+        self.word = word;
+    }
+
+    /// Goes over a step before the frame begins: it flips no record.
+    pub(crate) fn pass(&mut self, step: Step<'_>) -> Result<(), AllocError>
+        ensures { OnOk result ((n : ℕ) → self.new
+            ≡ record self.old {
+              records = self.old.records
+                  ++ replicate (length (step_records (listed n step.entry))) false;
+            }) }
+    {
+        match step {
+            Step::Collapse { rec, .. } | Step::CollapseWord { rec, .. } => self.record(rec, false),
+            _ => Ok(()),
+        }
     }
 
     /// Carries the frame over a step. Where the step is a collapse, it answers whether the frame flips its outcome.

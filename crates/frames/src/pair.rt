@@ -1,15 +1,14 @@
-ghost use Rattle.std.specs.Prelude.{◌≡◌, ℕ, Some, length, IfOk, IfErr};
+//! The coin pair of a place: two coin lists that show a target to be random.
+ghost use Rattle.std.specs.Prelude.{◌≡◌, ℕ, true, Some, length, IfOk, IfErr};
 ghost use Rattle.step_model.specs.Faults.{memory_fault};
 ghost use Rattle.step_model.specs.Frames.{first_word, zero_coins, pair_coins};
-ghost use Rattle.circuit_walk.specs.Steps.{listed};
-ghost use Rattle.circuit_walk.specs.Named.{IsStepOf};
-ghost use Rattle.step_model.specs.Sensitivities.{place_of, collapse_word};
+ghost use Rattle.step_model.specs.Sensitivities.{place_of};
 ghost use Rattle.frames.specs.Pairs.{PairDiffers};
+ghost use Rattle.frames.specs.private.LoneFrames.{begins_as, begins_behind};
 
-use crate::carry::flips_at;
-use crate::collapses::go_past;
-use crate::words::{lone_word, product_of};
-use circuit_walk::{Program, Step, Walk};
+use crate::lone_frame::flips_at;
+use crate::words::lone_word;
+use circuit_walk::Program;
 use pauli_word::{Letter, Word};
 use run_laws::shift::pair_disagrees;
 use std::alloc::{AllocError, Allocator};
@@ -56,7 +55,7 @@ fn pair_at<A: Allocator + Copy>(
     Ok((zeros, flips))
 }
 
-// The flips of the frame that begins at a place.
+// The flips of the frame that begins at a place: as the word that is collapsed there, or as Z at the place's qubit.
 fn place_flips<A: Allocator + Copy>(
     alloc: A,
     program: &Program<'_, A>,
@@ -65,16 +64,17 @@ fn place_flips<A: Allocator + Copy>(
     ensures { IfOk result (λ flips. flips.items ≡ pair_coins program.now.listing place) }
 {
     let word = word_at(alloc, program, place)?;
-    flips_at(alloc, program, place, &word)
+    flips_at(alloc, program, place, word, true)
 }
 
-// The word as which the frame of a place begins; the identity where there is no such place.
+// Z at the place's qubit of the start; the identity behind a collapse, and where there is no such qubit.
 fn word_at<A: Allocator + Copy>(
     alloc: A,
     program: &Program<'_, A>,
     place: Place,
 ) -> Result<Word<A>, AllocError>
-    ensures word { IfOk result (λ word. word.letters ≡ first_word program.now.listing place) }
+    ensures word { IfOk result (λ word. begins_as program.now.listing true (begins_behind place) word.letters
+        ≡ first_word program.now.listing place) }
     ensures size { IfOk result (λ word. length word.letters ≡ program.now.listing.qubits) }
 {
     let qubits = program.qubits() as usize;
@@ -86,33 +86,6 @@ fn word_at<A: Allocator + Copy>(
                 Word::identity(alloc, qubits)
             }
         }
-        Place::After(collapse) => {
-            let mut walk = Walk::start(program);
-            match go_past(program, &mut walk, collapse) {
-                Some(passed) => word_measured(alloc, program, passed.step),
-                None => Word::identity(alloc, qubits),
-            }
-        }
-    }
-}
-
-// The word that a step measures; the identity where the step is no collapse.
-fn word_measured<A: Allocator + Copy>(
-    alloc: A,
-    program: &Program<'_, A>,
-    step: Step<'_>,
-) -> Result<Word<A>, AllocError>
-    requires { IsStepOf program.now step }
-    ensures word { IfOk result (λ word. word.letters
-        ≡ collapse_word program.now.listing.qubits
-        (listed program.now.listing.qubits step.entry)) }
-    ensures size { IfOk result (λ word. length word.letters ≡ program.now.listing.qubits) }
-{
-    program.well_formed();
-    let qubits = program.qubits() as usize;
-    match step {
-        Step::Collapse { letter, qubit, .. } => lone_word(alloc, qubits, qubit as usize, letter),
-        Step::CollapseWord { letters, .. } => product_of(alloc, qubits, letters),
-        _ => Word::identity(alloc, qubits),
+        Place::After(_) => Word::identity(alloc, qubits),
     }
 }

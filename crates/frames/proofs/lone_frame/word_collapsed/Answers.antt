@@ -1,6 +1,6 @@
 use Rattle.std.proofs.Common.{sym}
 use Rattle.frames.proofs.FrameSteps.{measured_word-measured}
-use Rattle.frames.proofs.pair.word_measured.Goals as goal
+use Rattle.frames.proofs.lone_frame.word_collapsed.Goals as goal
 
 pub returns-in-Collapse-clause-word : goal.returns-in-Collapse-clause-word
 returns-in-Collapse-clause-word g c =
