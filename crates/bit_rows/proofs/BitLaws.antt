@@ -6,7 +6,7 @@ use Rattle.std.specs.Int.RustNames.{count_ones}
 use Rattle.std.proofs.Math.Pow.{pow_mono}
 use Rattle.std.proofs.lemmas.Bool.{cases_eq, cases_lt, eq-eqb, ne_eqb}
 use Rattle.std.proofs.lemmas.Nat.{ones_cat, ones_le_self, zero_from_ones, shr_below, shr-shr, one_shl, pow-add}
-use Rattle.std.proofs.lemmas.Nat.Bits.{bit_at-lt, bit_at_and, bit_at_or, bit_at_not, bit_at_xor, bit_at-suc, bit_at_lowest, bit_at-pow_same, bit_at-pow_other, bit_at_set_same, bit_at_set_other, bit_at_clear_same, bit_at_clear_other, bit_at-zero, same_from_bits_below, shr_and_one, bit_at_ones, bit_at_mask_below, bit_at_mask_above, bit_at-trailing_zeros}
+use Rattle.std.proofs.lemmas.Nat.Bits.{bit_at-lt, bit_at_and, bit_at_or, bit_at_not, bit_at_xor, bit_at-suc, bit_at_lowest, bit_at-pow_same, bit_at-pow_other, bit_at_set_same, bit_at_set_other, bit_at_clear_same, bit_at_clear_other, bit_at-zero, same_from_bits_below, shr_and_one, bit_at_ones, bit_at_mask_below, bit_at_mask_above, bit_at_above, bit_at-trailing_zeros}
 use Rattle.bit_rows.specs.Rows.{exclusive_or}
 use Rattle.bit_rows.specs.private.Totals.{total}
 use Rattle.bit_rows.specs.private.Words.{bit_of}
@@ -92,14 +92,21 @@ four_ones n k h set =
     (cases_lt k (n + 4)))
     (cases_lt k n)
 
+and_with_true : (a b : Bool) → b ≡ true → (a && b) ≡ false → a ≡ false
+and_with_true true b e n = sym e ∙ n
+and_with_true false b e n = refl
+
+-- where `word & 1 << k` is less than `1 << k`, bit k isn't set
+pub unset_below : (word k : ℕ) → bit_and word (2 ^ k) < 2 ^ k → bit_of word k ≡ false
+unfolding bit_of
+unset_below word k small =
+    and_with_true (bit_of word k) (bit_of (2 ^ k) k) (ap (λ v. eqb v 1) (bit_at-pow_same k))
+    (sym (bit_of-and word (2 ^ k) k) ∙ ap (λ v. eqb v 1) (bit_at_above (bit_and word (2 ^ k)) k k small (omega arith)))
+
 -- where `word & 15` is 0, so are the four lowest bits
 pub none_of_four : (word k : ℕ) → k < 4 → bit_and word 15 ≡ 0 → bit_of word k ≡ false
 none_of_four word k h none =
     and_with_true (bit_of word k) (bit_of 15 k) (one_of_four k h) (sym (bit_of-and word 15 k) ∙ ap (λ v. bit_of v k) none ∙ bit_of-zero k)
-  where
-    and_with_true : (a b : Bool) → b ≡ true → (a && b) ≡ false → a ≡ false
-    and_with_true true b e n = sym e ∙ n
-    and_with_true false b e n = refl
 
 -- a word below 2 ^ 64 whose 64 bits are 0 is 0
 pub zero_from_bits : (word : ℕ) → word < 2 ^ 64 → ((j : ℕ) → j < 64 → bit_of word j ≡ false) → word ≡ 0

@@ -1,18 +1,25 @@
 // Marks of a list of words: one bit for each of the first 64 words, set where the word may have ones. A block is four words.
-ghost use Rattle.std.specs.Prelude.{◌≡◌, ◌==◌, ◌⊎◌, ◌<◌, ◌≤◌, ◌+◌, ◌*◌, ◌/◌, ℕ, true, false, if◌then◌else◌};
+ghost use Rattle.std.specs.Prelude.{◌≡◌, ◌==◌, ◌⊎◌, ◌<◌, ◌≤◌, ◌+◌, ◌*◌, ◌/◌, ◌^◌, ℕ, true, false, if◌then◌else◌};
 ghost use Rattle.bit_rows.specs.private.Words.{bit_of};
 
 use crate::bits::first_bit_from;
 
-// Whether a word is known to have no ones.
+// The bit of a word's mark, 0 where it has none.
+#[inline(always)]
+fn mark_of(word: usize) -> u64
+    ensures marked { word < 64 → result ≡ 2 ^ word }
+    ensures past { 64 ≤ word → result ≡ 0 }
+{
+    if word < 64 { 1u64 << word } else { 0 }
+}
+
+// Whether a word is known to have no ones. In a loop over rows its mark is made once.
 #[inline(always)]
 pub(crate) fn is_unmarked(marks: u64, word: usize) -> bool
     ensures { result ≡ true → (word < 64) × (bit_of marks word ≡ false) }
 {
-    if word >= 64 {
-        return false;
-    }
-    !((marks >> word) & 1 == 1)
+    let mark = mark_of(word);
+    marks & mark < mark
 }
 
 // The first word from `word` on, if that comes before `end`, that isn't known to have no ones.

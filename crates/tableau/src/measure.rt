@@ -10,7 +10,7 @@ ghost use Rattle.tableau.specs.private.Encoding.{HasLength, IsTableau, pair_at};
 ghost use Rattle.tableau.specs.private.EncodingSteps.{lone, mapped, code_of, after_measurement, outcome_of, TurnsAt};
 ghost use Rattle.tableau.specs.private.Waiting.{measured_letter};
 
-use crate::pairs::{Pair, change_sign};
+use crate::pairs::{Pair, change_sign, times};
 use crate::waiting_turns::Origin;
 use pauli_word::{Letter, Word};
 use std::alloc::Allocator;
@@ -234,6 +234,6 @@ fn turn_row<A: Allocator + Copy>(row: &mut Word<A>, turn: &Word<A>, qubit: usize
     ensures { row.new ≡ turned turn.now row.old }
 {
     if row.has_x_or_y(qubit) != clashes {
-        row.times(turn);
+        times(row, turn);
     }
 }

@@ -69,7 +69,7 @@ fn restart_pair<A: Allocator + Copy>(pair: &mut Pair<A>, qubit: usize)
 /// Multiplies by a word from the right. It is not inlined, since its callers would hold it once for each letter. A word
 /// of few qubits is multiplied before any register is put aside.
 #[inline(never)]
-fn times<A: Allocator + Copy>(word: &mut Word<A>, other: &Word<A>)
+pub(crate) fn times<A: Allocator + Copy>(word: &mut Word<A>, other: &Word<A>)
     requires { length word.old.letters ≡ length other.now.letters }
     ensures { word.new ≡ product word.old other.now }
 {

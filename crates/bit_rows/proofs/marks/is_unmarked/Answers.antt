@@ -1,7 +1,13 @@
-use Rattle.std.proofs.Common.{arith, sym, ◌∙◌}
-use Rattle.std.proofs.lemmas.Bool.{not-true}
-use Rattle.bit_rows.proofs.BitLaws.{bit_of_shift}
+use Rattle.std.proofs.Common.{◌<◌, ◌≤◌, ◌^◌, arith, ap, subst, ⊎_elim, bit_and}
+use Rattle.std.proofs.lemmas.Bool.{cases_lt, ltb-true}
+use Rattle.bit_rows.proofs.BitLaws.{unset_below}
 use Rattle.bit_rows.proofs.marks.is_unmarked.Goals as goal
 
 pub returns : goal.returns
-returns c = λ yes. (omega (arith, c.if-word-ge64.false), sym (bit_of_shift c.args.marks c.args.word) ∙ not-true _ yes)
+returns c = λ yes.
+    let word = c.args.word in
+    let small : bit_and c.args.marks c.mark_of-mark.result < c.mark_of-mark.result = ltb-true _ _ yes in
+    ⊎_elim
+    (λ (h : word < 64). (h, unset_below c.args.marks word (subst (λ m. bit_and c.args.marks m < m) (c.mark_of-mark.ensures.marked h) small)))
+    (λ (h : 64 ≤ word). absurd (omega (arith, small, c.mark_of-mark.ensures.past h)))
+    (cases_lt word 64)
