@@ -1,4 +1,4 @@
-use Rattle.std.proofs.Common.{◌<◌, ◌≤◌, ◌^◌, arith, ap, subst, ⊎_elim, bit_and}
+use Rattle.std.proofs.Common.{◌<◌, ◌≤◌, arith, subst, ⊎_elim, bit_and}
 use Rattle.std.proofs.lemmas.Bool.{cases_lt, ltb-true}
 use Rattle.bit_rows.proofs.BitLaws.{unset_below}
 use Rattle.bit_rows.proofs.marks.is_unmarked.Goals as goal
