@@ -51,7 +51,7 @@ behind_last n chances items cursor s c place h at =
     let b = state_at n items cursor in
     let before = before_of is_step_maker items cursor in
     let all : h.k ≡ length (new_steps n b i) = (ends n b i h.stands.steps.fits).over s.at h.k h.stands.place (at ∙ h.stands.steps.end) in
-    let flips = ap (λ m. length (new_steps n b i) * one_if m) h.stands.steps.flips in
+    let flips = ap (λ f. length (new_steps n b i) * one_if (makes_faults i.operation f)) h.stands.steps.flips in
     record {
       records =
           omega (
@@ -100,7 +100,7 @@ into_last n chances items cursor s c place i rest left faced ready steps at near
     let b = state_at n items cursor in
     let before = before_of is_step_maker items cursor in
     let count = length (new_steps n b i) in
-    let flips = ap (λ m. count * one_if m) steps.flips in
+    let flips = ap (λ f. count * one_if (makes_faults i.operation f)) steps.flips in
     record {
       instruction = i;
       rest = rest;

@@ -80,9 +80,9 @@ one_product n i fits is k lt =
 
 module _ (program : KeptProgram) (b : Before) (i : Instruction) (s : InstructionSteps) (c : Counts) (k : ℕ) where
   -- the number of the fault of the step
-  next_number : AreCounts b i.operation s.flips k c → makes_faults i.operation s.flips ≡ makes_faults i.operation (has_argument i) → HasFault i program.listing.qubits b k → c.faults ≡ b.faults + k
+  next_number : AreCounts b i.operation s.flips k c → s.flips ≡ has_argument i → HasFault i program.listing.qubits b k → c.faults ≡ b.faults + k
   next_number counts flips has =
-      omega (arith, counts.faults, ap (λ m. k * one_if m) (flips ∙ has.makes))
+      omega (arith, counts.faults, ap (λ f. k * one_if (makes_faults i.operation f)) flips, ap (λ m. k * one_if m) has.makes)
 
   named : IsHere program b i s.chance → HasFault i program.listing.qubits b k → c.faults ≡ b.faults + k → (name : FaultName) → IsNext s c name → IsNamed program name
   named here has faults name next =
@@ -100,7 +100,7 @@ module _ (program : KeptProgram) (b : Before) (i : Instruction) (s : Instruction
       }
 
   -- what becomes of an outcome
-  collapse_named : IsHere program b i s.chance → AreCounts b i.operation s.flips k c → makes_faults i.operation s.flips ≡ makes_faults i.operation (has_argument i) → (place : ℕ) (what : Measured) (rec : Option ℕ) (inverted : Bool) (flip : Option FaultName) → slice_get (new_steps program.listing.qubits b i) k ≡ Some (listing.Collapse what (recorded rec inverted flip)) → slice_get program.listing.steps place ≡ Some (listing.Collapse what (recorded rec inverted flip)) → record_fits program.listing (recorded rec inverted flip) ≡ true → IsNextFlip s c rec flip → IsRecord program rec × IsNamedFlip program rec flip
+  collapse_named : IsHere program b i s.chance → AreCounts b i.operation s.flips k c → s.flips ≡ has_argument i → (place : ℕ) (what : Measured) (rec : Option ℕ) (inverted : Bool) (flip : Option FaultName) → slice_get (new_steps program.listing.qubits b i) k ≡ Some (listing.Collapse what (recorded rec inverted flip)) → slice_get program.listing.steps place ≡ Some (listing.Collapse what (recorded rec inverted flip)) → record_fits program.listing (recorded rec inverted flip) ≡ true → IsNextFlip s c rec flip → IsRecord program rec × IsNamedFlip program rec flip
   collapse_named here counts flips place what None inverted None made got fits next = (tt, tt)
   collapse_named here counts flips place what None inverted (Some name) made got fits next = absurd next
   collapse_named here counts flips place what (Some r) inverted None made got fits next =
@@ -123,7 +123,7 @@ module _ (program : KeptProgram) (b : Before) (i : Instruction) (s : Instruction
         word = word;
       }
 
-  error_named : IsHere program b i s.chance → AreCounts b i.operation s.flips k c → makes_faults i.operation s.flips ≡ makes_faults i.operation (has_argument i) → (name : FaultName) (letters : Letters) → slice_get (new_steps program.listing.qubits b i) k ≡ Some (listing.Fault name.number) → IsNext s c name → LendsFault program.listing.qubits b i k letters → IsStepOf program (Fault name letters)
+  error_named : IsHere program b i s.chance → AreCounts b i.operation s.flips k c → s.flips ≡ has_argument i → (name : FaultName) (letters : Letters) → slice_get (new_steps program.listing.qubits b i) k ≡ Some (listing.Fault name.number) → IsNext s c name → LendsFault program.listing.qubits b i k letters → IsStepOf program (Fault name letters)
   error_named here counts flips name letters made next lends =
       let n = program.listing.qubits in
       let has = has_fault n b i k name.number _ made refl in
@@ -134,7 +134,7 @@ module _ (program : KeptProgram) (b : Before) (i : Instruction) (s : Instruction
       ∙ ap (λ (f : ListedFault). f.effect) (here.fault_is k has.there ∙ get_or_from_slice_get (new_faults n b i) k _ no_effect lends.fault) in
       (is, effect, lends.small, subst (EffectFits n) effect (here.fine.faults_fit name.number no_effect is.number).effect)
 
-  pub step_named : IsHere program b i s.chance → AreCounts b i.operation s.flips k c → makes_faults i.operation s.flips ≡ makes_faults i.operation (has_argument i) → (place : ℕ) (step : Step) → slice_get (new_steps program.listing.qubits b i) k ≡ Some (listed program.listing.qubits step) → slice_get program.listing.steps place ≡ Some (listed program.listing.qubits step) → NamesNext s c step → Lends program.listing.qubits b i k step → IsStepOf program step
+  pub step_named : IsHere program b i s.chance → AreCounts b i.operation s.flips k c → s.flips ≡ has_argument i → (place : ℕ) (step : Step) → slice_get (new_steps program.listing.qubits b i) k ≡ Some (listed program.listing.qubits step) → slice_get program.listing.steps place ≡ Some (listed program.listing.qubits step) → NamesNext s c step → Lends program.listing.qubits b i k step → IsStepOf program step
   step_named here counts flips place (One gate q) made got names lends =
       one_named program.listing gate q (fit_at program.listing here.fine place _ got)
   step_named here counts flips place (Two gate p q) made got names lends =

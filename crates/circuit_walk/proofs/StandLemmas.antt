@@ -53,7 +53,7 @@ pub record IsOwn (n : ℕ) (i : Instruction) (b : Before) (s : InstructionSteps)
   pub records : c.records ≡ b.records + k * one_if (makes_records operation)
   pub faults : c.faults ≡ b.faults + k * one_if (makes_faults operation s.flips)
   pub near : reaches_far b.records s.targets.now ≡ false
-  pub flips : makes_faults operation s.flips ≡ makes_faults operation (has_argument i)
+  pub flips : s.flips ≡ has_argument i
   pub fit : FitOwn s operation
   pub open fit use *
 
@@ -77,7 +77,7 @@ own n i b s c k operation h is =
       records = h.counts.records ∙ ap (λ o. b.records + k * one_if (makes_records o)) e;
       faults = h.counts.faults ∙ ap (λ o. b.faults + k * one_if (makes_faults o s.flips)) e;
       near = sym (ap (reaches_far b.records) t) ∙ h.near;
-      flips = subst (λ o. makes_faults o s.flips ≡ makes_faults o (has_argument i)) e h.steps.flips;
+      flips = h.steps.flips;
       fit = fit_own i s operation h.steps is;
     }
 

@@ -20,9 +20,9 @@ use Rattle.circuit_walk.specs.declared.step.Step.{Step}
 use Rattle.circuit_walk.specs.private.Courses.{IsCourse}
 use Rattle.circuit_walk.specs.private.Held.{Holds}
 use Rattle.circuit_walk.specs.private.InstructionSteps.{AreCounts, AreStepsOf, IsAt, Stands, counts_behind, has_argument}
-use Rattle.circuit_walk.specs.Makes.{makes_collapses, makes_faults, makes_records, one_if}
+use Rattle.circuit_walk.specs.Makes.{makes_faults, makes_records, one_if}
 use Rattle.circuit_walk.specs.private.Walks.{AreCountsAt, IsInside, is_step_maker, state_at, steps_of}
-use Rattle.circuit_walk.proofs.CountLemmas.{Makes, MakesAs, each_at, each_new}
+use Rattle.circuit_walk.proofs.CountLemmas.{MakesAs, each_at, each_new}
 use Rattle.circuit_walk.proofs.CourseLemmas.{all_steps, makers_of, step_inside}
 use Rattle.circuit_walk.proofs.EndLemmas.{ends}
 use Rattle.circuit_walk.proofs.PlaceCounts.{counted_behind}
@@ -140,7 +140,7 @@ counts_next b i s c k steps h =
 pub makes_own : (n : ℕ) (b : Before) (i : Instruction) (s : InstructionSteps) (k : ℕ) (step : ListedStep) → AreStepsOf i s → slice_get (new_steps n b i) k ≡ Some step → MakesAs s.operation s.flips step
 makes_own n b i s k step steps got =
     subst (λ o. MakesAs o s.flips step) (sym steps.operation)
-    (subst (λ m. Makes (one_if (makes_records i.operation)) (one_if (makes_collapses i.operation)) (one_if m) step) (sym steps.flips) (each_at (MakesAs i.operation (has_argument i)) (new_steps n b i) k step (each_new n b i) got))
+    (subst (λ f. MakesAs i.operation f step) (sym steps.flips) (each_at (MakesAs i.operation (has_argument i)) (new_steps n b i) k step (each_new n b i) got))
 
 -- what is known of the step that a course takes
 pub record Takes {A : Type 0} (program : KeptProgram) (c : Course A) (step : Step) : Type 0 where

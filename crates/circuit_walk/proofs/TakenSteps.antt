@@ -65,13 +65,6 @@ same_counts a b records collapses faults =
     ap (λ n. record a { records = n }) records
     ∙ ap₂ (λ n m. record { records = b.records; collapses = n; faults = m }) collapses faults
 
--- whether a record may be flipped is whether it makes a fault
-same_flips : (flips has : Bool) → (if flips then true else false) ≡ (if has then true else false) → flips ≡ has
-same_flips true true e = refl
-same_flips true false e = e
-same_flips false true e = e
-same_flips false false e = refl
-
 -- nothing is flipped where no record is made
 none_flipped : (flips : Bool) → one_if (if flips then false else false) ≡ 0
 none_flipped false = refl
@@ -193,7 +186,7 @@ module _ (s : InstructionSteps) (c : Counts) (f : IsFacing s c) where
         step = λ n k i b st.
             let o = own n i b s c k _ st is in
             ap (λ steps. slice_get steps k) o.made
-            ∙ collapse_at b i.arguments (λ (target : Target). Word (lone_letter n (qubit_of target) l)) is_inverted ts k t c s.flips (subst (λ j. slice_get ts j ≡ Some t) o.place.0 at) (same_flips s.flips _ o.flips) o.records o.faults
+            ∙ collapse_at b i.arguments (λ (target : Target). Word (lone_letter n (qubit_of target) l)) is_inverted ts k t c s.flips (subst (λ j. slice_get ts j ≡ Some t) o.place.0 at) o.flips o.records o.faults
             ∙ ap (λ fault. Some (listing.Collapse (measured n false l (qubit_of t)) (Some (record { number = c.records; inverted = is_inverted t; flip = fault })))) (sym number);
         names = flip_next flip next;
         letters = λ n k i b st. tt;
@@ -209,7 +202,7 @@ module _ (s : InstructionSteps) (c : Counts) (f : IsFacing s c) where
         step = λ n k i b st.
             let o = own n i b s c k _ st is in
             ap (λ steps. slice_get steps k) o.made
-            ∙ collapse_at b i.arguments (λ (target : Target). Reset l (qubit_of target)) is_inverted ts k t c s.flips (subst (λ j. slice_get ts j ≡ Some t) o.place.0 at) (same_flips s.flips _ o.flips) o.records o.faults
+            ∙ collapse_at b i.arguments (λ (target : Target). Reset l (qubit_of target)) is_inverted ts k t c s.flips (subst (λ j. slice_get ts j ≡ Some t) o.place.0 at) o.flips o.records o.faults
             ∙ ap (λ fault. Some (listing.Collapse (measured n true l (qubit_of t)) (Some (record { number = c.records; inverted = is_inverted t; flip = fault })))) (sym number);
         names = flip_next flip next;
         letters = λ n k i b st. tt;
@@ -263,7 +256,7 @@ module _ (s : InstructionSteps) (c : Counts) (f : IsFacing s c) where
             let word = slice_is ts k s.at at o.place.0 (next k o.place.0) in
             let product = get_or (products_of ts) k [] in
             ap (λ steps. slice_get steps k) o.made
-            ∙ collapse_at b i.arguments (λ (p : List Target). Word (word_of_terms n (map term_of p))) is_product_inverted (products_of ts) k product c s.flips (slice_get-get_or (products_of ts) k [] inside) (same_flips s.flips _ o.flips) o.records o.faults
+            ∙ collapse_at b i.arguments (λ (p : List Target). Word (word_of_terms n (map term_of p))) is_product_inverted (products_of ts) k product c s.flips (slice_get-get_or (products_of ts) k [] inside) o.flips o.records o.faults
             ∙ ap₂ (λ (terms : List Term) (so : Bool). Some (listing.Collapse (Word (word_of_terms n terms)) (recorded_at c s.flips so))) (sym (named ∙ word.letters)) (sym (is_so ∙ word.inverted))
             ∙ ap (λ fault. Some (listing.Collapse (Word (word_of_terms n (letters_in letters))) (Some (record { number = c.records; inverted = inverted; flip = fault })))) (sym number);
         names = flip_next flip faults;

@@ -277,8 +277,8 @@ module _ {A : Type 0} (program : KeptProgram) (text : Text A) (here far new : Cu
         let weigh_faults : Instruction → ℕ → ℕ = λ i k. k * one_if (makes_faults i.operation (has_argument i)) in
         let same = ap₂ weigh same_later same_number in
         let same_faults = ap₂ weigh_faults same_later same_number in
-        let flips = ap (λ m. h.inside.k * one_if m) h.inside.stands.steps.flips in
-        let flips_later = ap (λ m. h.inside_later.k * one_if m) h.inside_later.stands.steps.flips in
+        let flips = ap (λ f. h.inside.k * one_if (makes_faults h.inside.instruction.operation f)) h.inside.stands.steps.flips in
+        let flips_later = ap (λ f. h.inside_later.k * one_if (makes_faults h.inside_later.instruction.operation f)) h.inside_later.stands.steps.flips in
         let records = ap (λ (x : Before). x.records) here_is in
         let records_far = ap (λ (x : Before). x.records) far_is in
         let faults = ap (λ (x : Before). x.faults) here_is in

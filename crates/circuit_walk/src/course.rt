@@ -78,7 +78,7 @@ impl<'a, 'p, A: Allocator + Copy> Course<'a, 'p, A> {
             text: self.text,
             cursor: self.cursor.copy(),
             inside: self.inside,
-            here: self.here,
+            here: self.here.copy(),
             counts: self.counts,
             steps: self.steps,
         }

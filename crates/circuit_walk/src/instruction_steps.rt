@@ -1,27 +1,26 @@
 //! The steps that one instruction makes, one after another: of each target, of each pair, of each product, or one of all.
 
 ghost use Rattle.std.specs.Prelude.{◌≡◌, ◌+◌, ◌<◌, ◌^◌, IfSome, Some, if◌then◌else◌, None, length, option_map, slice_get};
-ghost use Rattle.circuit_walk.specs.Makes.{makes_faults};
 ghost use Rattle.circuit_walk.specs.Steps.{number_of};
-ghost use Rattle.circuit_walk.specs.private.InstructionSteps.{AreStepsOf, counts_behind, end_of, has_argument};
+ghost use Rattle.circuit_walk.specs.private.InstructionSteps.{AreStepsOf, counts_behind, end_of};
 ghost use Rattle.circuit_walk.specs.private.Names.{IsNext};
 ghost use Rattle.stim_parser.specs.Circuits.{Fits};
 ghost use Rattle.stim_parser.specs.Kept.{instruction_in};
 ghost use Rattle.stim_parser.specs.declared.operation.Operation.TheVariants.{ProductMeasurement};
 
+use crate::may_flip::MayFlip;
 use crate::step::{Counts, FaultName};
-use crate::steps_back::makes_records;
 use stim_parser::{Operation, TargetWord};
 
 /// An instruction whose steps are gone through, and how many of its targets are behind.
-#[derive(Clone, Copy)]
+#[derive(Drop)]
 pub(crate) struct InstructionSteps<'c> {
     pub operation: Operation,
     pub targets: &'c [TargetWord],
     /// The number of its probability, where it has one.
     pub chance: u32,
-    /// Whether its records may be flipped; false where it makes none.
-    pub flips: bool,
+    /// Whether its records may be flipped.
+    pub flips: MayFlip<'c>,
     /// A place among its targets, from 0 to `end`.
     pub at: usize,
     pub end: usize,
@@ -48,15 +47,6 @@ fn end_of(operation: Operation, targets: &[TargetWord]) -> usize
     }
 }
 
-/// Whether the records of an instruction may be flipped. Where it makes none its arguments aren't looked at.
-#[inline(always)]
-fn may_flip(instruction: stim_parser::Instruction<'_, '_>) -> bool
-    ensures { makes_faults instruction.entry.operation result
-        ≡ makes_faults instruction.entry.operation (has_argument (instruction_in instruction.entry)) }
-{
-    makes_records(instruction.operation) && stim_parser::has_argument(instruction.arguments)
-}
-
 impl<'c> InstructionSteps<'c> {
     /// No steps, of no instruction.
     #[inline(always)]
@@ -68,7 +58,7 @@ impl<'c> InstructionSteps<'c> {
             operation: Operation::Tick,
             targets: &[],
             chance: 0,
-            flips: false,
+            flips: MayFlip::new(&[]),
             at: 0,
             end: 0,
         }
@@ -76,7 +66,7 @@ impl<'c> InstructionSteps<'c> {
 
     /// The steps of an instruction, before the first.
     #[inline(always)]
-    pub(crate) fn new(instruction: stim_parser::Instruction<'c, '_>) -> Self
+    pub(crate) fn new<'a: 'c>(instruction: stim_parser::Instruction<'c, 'a>) -> Self
         requires { Fits (instruction_in instruction) }
         ensures steps { AreStepsOf (instruction_in instruction.entry) result }
         ensures at { result.at ≡ 0 }
@@ -86,9 +76,24 @@ impl<'c> InstructionSteps<'c> {
             operation: instruction.operation,
             targets: instruction.targets,
             chance: instruction.mark,
-            flips: may_flip(instruction),
+            flips: MayFlip::new(instruction.arguments),
             at: 0,
             end: end_of(instruction.operation, instruction.targets),
+        }
+    }
+
+    /// The same.
+    #[inline(always)]
+    pub(crate) fn copy(&self) -> Self
+        ensures { result ≡ self.now }
+    {
+        InstructionSteps {
+            operation: self.operation,
+            targets: self.targets,
+            chance: self.chance,
+            flips: self.flips.copy(),
+            at: self.at,
+            end: self.end,
         }
     }
 
@@ -110,7 +115,7 @@ impl<'c> InstructionSteps<'c> {
             ≡ (if self.now.flips then Some counts.faults else None) }
         ensures next { IfSome result (IsNext self.now counts) }
     {
-        if self.flips {
+        if self.flips.get() {
             Some(self.fault_name(counts))
         } else {
             None
@@ -163,7 +168,7 @@ impl<'c> InstructionSteps<'c> {
         Counts {
             records: counts.records + 1,
             collapses: counts.collapses + 1,
-            faults: counts.faults + self.flips as u32,
+            faults: counts.faults + self.flips.get() as u32,
         }
     }
 }

@@ -16,6 +16,7 @@ mod found_fault;
 mod instruction_steps;
 mod kept_letters;
 mod letters;
+mod may_flip;
 mod named_records;
 mod operations;
 mod pairs;

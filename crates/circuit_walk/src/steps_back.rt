@@ -6,12 +6,13 @@ ghost use Rattle.circuit_walk.specs.private.InstructionSteps.{AreStepsOf, IsAt, 
 ghost use Rattle.stim_parser.specs.Verdicts.{Instruction};
 
 use crate::instruction_steps::InstructionSteps;
+use crate::may_flip::MayFlip;
 use crate::products::product_before;
 use crate::step::Counts;
 use stim_parser::Operation;
 
 #[inline(always)]
-pub(crate) fn makes_records(operation: Operation) -> bool
+fn makes_records(operation: Operation) -> bool
     ensures { result ≡ makes_records operation }
 {
     matches!(
@@ -28,12 +29,12 @@ fn makes_collapses(operation: Operation) -> bool
 }
 
 #[inline(always)]
-fn makes_faults(operation: Operation, flips: bool) -> bool
-    ensures { result ≡ makes_faults operation flips }
+fn makes_faults(operation: Operation, flips: &MayFlip<'_>) -> bool
+    ensures { result ≡ makes_faults operation flips.now }
 {
     match operation {
         Operation::PauliError(_) | Operation::CorrelatedError => true,
-        _ => flips && makes_records(operation),
+        _ => makes_records(operation) && flips.get(),
     }
 }
 
@@ -63,7 +64,7 @@ impl<'c> InstructionSteps<'c> {
         Counts {
             records: counts.records - makes_records(self.operation) as u32,
             collapses: counts.collapses - makes_collapses(self.operation) as u32,
-            faults: counts.faults - makes_faults(self.operation, self.flips) as u32,
+            faults: counts.faults - makes_faults(self.operation, &self.flips) as u32,
         }
     }
 }

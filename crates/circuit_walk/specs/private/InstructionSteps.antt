@@ -93,11 +93,11 @@ product_made n product c flips =
 abbrev pub has_argument : Instruction → Bool
 has_argument i = is_some (slice_get i.arguments 0)
 
--- these are the steps of this instruction; whether it has an argument is known where it makes records
+-- these are the steps of this instruction
 pub record AreStepsOf (i : Instruction) (s : InstructionSteps) : Type 0 where
   pub operation : s.operation ≡ i.operation
   pub targets : s.targets.now ≡ i.targets
-  pub flips : makes_faults i.operation s.flips ≡ makes_faults i.operation (has_argument i)
+  pub flips : s.flips ≡ has_argument i
   pub end : s.end ≡ end_of i.operation i.targets
   pub fits : Fits i
 
