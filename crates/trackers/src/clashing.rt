@@ -15,7 +15,7 @@ const FEW_LETTERS: usize = 8;
 
 /// Makes a set that of the targets whose words anticommute with the product of these letters at qubits. Those of many
 /// letters are added up in halves, so a target is gone over as often as these can be halved. A row of bits takes as long for few
-/// targets as for many: it is added up letter by letter.
+/// targets as for many: it is added up letter by letter. (A spare set is a list wherever sets may be lists.)
 #[inline(never)]
 pub(crate) fn clashing<S: TargetSet>(
     columns: &[Column<S>],

@@ -1,10 +1,12 @@
 //! How a set of targets is held: as a list while it is short, and as a row of bits once it is long.
-ghost use Rattle.std.specs.Prelude.{◌≡◌, length, IfSome, OnOk};
+ghost use Rattle.std.specs.Prelude.{◌≡◌, ◌<◌, length, IfSome, OnOk};
 ghost use Rattle.bit_rows.specs.Rows.{xor_rows};
+ghost use Rattle.step_model.specs.TargetSets.{toggled};
 ghost use Rattle.trackers.specs.private.Held.{bits_of};
 
 use crate::list_set::ListSet;
 use crate::row_set::RowSet;
+use crate::target_set::TargetSet;
 use std::alloc::{AllocError, Allocator};
 
 /// A set of targets. A list that takes more memory than a row becomes a row, and a row of few targets becomes a list: so what
@@ -24,6 +26,25 @@ impl<'a, A: Allocator + Copy> Held<'a, A> {
         match self {
             Held::List(list) => Some(list),
             Held::Row(_) => None,
+        }
+    }
+
+    /// Puts a target in where it isn't there, and takes it out where it is.
+    #[inline(never)]
+    pub(crate) fn toggle(&mut self, target: u32) -> Result<(), AllocError>
+        requires { target < length (bits_of self.old) }
+        ensures ok { OnOk result (bits_of self.new ≡ toggled target (bits_of self.old)) }
+        ensures len { length (bits_of self.new) ≡ length (bits_of self.old) }
+    {
+        match self {
+            Held::List(list) => {
+                list.toggle(target)?;
+                self.settle()
+            }
+            Held::Row(row) => {
+                row.toggle(target);
+                self.settle()
+            }
         }
     }
 

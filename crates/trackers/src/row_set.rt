@@ -83,7 +83,6 @@ impl<'a, A: Allocator + Copy> RowSet<'a, A> {
     }
 
     /// Puts a target in where it isn't there, and takes it out where it is.
-    #[inline(never)]
     pub(crate) fn toggle(&mut self, target: u32)
         requires { target < length self.old }
         ensures { self.new

@@ -69,20 +69,13 @@ impl<'a, A: Allocator + Copy> TargetSet for SparseSet<'a, A> {
 
     #[inline(always)]
     fn toggle(&mut self, target: u32) -> Result<(), AllocError> {
-        match &mut self.held {
-            Held::List(list) => {
-                // By one target more it doesn't get long.
-                if list.is_inline() {
-                    return list.toggle(target);
-                }
-                list.toggle(target)?;
-                self.held.settle()
-            }
-            Held::Row(row) => {
-                row.toggle(target);
-                self.held.settle()
+        if let Held::List(list) = &mut self.held {
+            // By one target more it doesn't get long.
+            if list.is_inline() {
+                return list.toggle(target);
             }
         }
+        self.held.toggle(target)
     }
 
     #[inline(always)]
