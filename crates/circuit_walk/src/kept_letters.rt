@@ -71,8 +71,8 @@ impl KeptLetters {
         true
     }
 
-    /// Keeps no letters.
-    pub fn forget(&mut self)
+    // Keeps no letters.
+    fn forget(&mut self)
         ensures { self.new ≡ None }
     {
         self.count = 0;
