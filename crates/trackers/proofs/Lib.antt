@@ -5,7 +5,6 @@ pub mod HalfLemmas
 pub mod KeptLemmas
 pub mod LengthLemmas
 pub mod LoneTerms
-mod MemberLists
 pub mod MultiplyLemmas
 mod PairLemmas
 pub mod SetLemmas

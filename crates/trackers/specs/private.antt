@@ -1,4 +1,3 @@
-pub mod Held
 pub mod PairImages
 pub mod Sets
 pub mod Transposed

@@ -1,33 +1,41 @@
-//! A set of targets that takes little memory while few are in it, and no more than a row of bits once many are.
-ghost use Rattle.std.specs.Prelude.{◌≡◌, false, replicate};
+//! A set of targets as the list of those in it.
+ghost use Rattle.std.specs.Prelude.{◌≡◌, false, length, replicate, OnOk};
+ghost use Rattle.bit_rows.specs.Rows.{xor_rows};
 
-use crate::descending::FEW;
-use crate::held::Held;
-use crate::list_set::ListSet;
+use crate::descending::{
+    FEW, add_many, empty, list_ascending, put_ascending, put_few, sum_few, sum_few_of_four,
+    toggle_in,
+};
 use crate::target_set::TargetSet;
+use smallvec::SmallVec;
 use std::alloc::{AllocError, Allocator};
 use std::marker::Model;
 
-/// A set of targets as the list of those in it, the greatest first, while these are few: where targets come from the greatest
-/// down, each is appended. Once they are many it is a row of bits.
+/// A set of targets as the list of those in it, the greatest first: where targets come from the greatest down, each is
+/// appended.
 pub struct SparseSet<'a, A: Allocator + Copy> {
-    held: Held<'a, A>,
+    targets: usize,
+    // On a borrowed allocator, since the size of a SmallVec has to be known.
+    items: SmallVec<u32, 4, &'a A>,
 }
 
 impl<'a, A: Allocator + Copy> Model for SparseSet<'a, A> {
     ghost use Rattle.std.specs.Prelude.{List, Bool};
-    ghost use Rattle.trackers.specs.private.Held.{bits_of};
+    ghost use Rattle.trackers.specs.private.Sets.{DescendsBelow};
+    ghost use Rattle.step_model.specs.TargetSets.{row_of_set};
 
     ghost Value = { List Bool };
 
-    ghost view = { λ s. bits_of s.held };
+    ghost view = { λ s. row_of_set s.targets s.items.items };
+
+    ghost invariant = { λ s. DescendsBelow s.targets s.items.items };
 }
 
 // Written out, so that it is a call in the proof of each function that owns one.
 impl<A: Allocator + Copy> Drop for SparseSet<'_, A> {
     fn drop(self) {
-        let SparseSet { held } = self;
-        drop(held);
+        let SparseSet { targets: _, items } = self;
+        drop(items);
     }
 }
 
@@ -37,7 +45,25 @@ impl<'a, A: Allocator + Copy> SparseSet<'a, A> {
         ensures { result ≡ replicate targets false }
     {
         SparseSet {
-            held: Held::List(ListSet::none(alloc, targets)),
+            targets,
+            items: SmallVec::new(alloc),
+        }
+    }
+
+    // Toggles each target of another set, which has some.
+    #[inline(never)]
+    fn add_some(&mut self, other: &Self, spare: &mut Self) -> Result<(), AllocError>
+        requires other { length self.old ≡ length other.now }
+        requires spare { length spare.old ≡ length self.old }
+        ensures ok { OnOk result (self.new ≡ xor_rows self.old other.now) }
+        ensures len { length self.new ≡ length self.old }
+        ensures spare { length spare.new ≡ length spare.old }
+    {
+        let more = other.items.as_slice();
+        let mut sum = [0; FEW];
+        match sum_few(self.items.as_slice(), more, &mut sum) {
+            Some(len) => put_few(&mut self.items, &sum, len),
+            None => add_many(&mut self.items, more, &mut spare.items),
         }
     }
 }
@@ -46,84 +72,44 @@ impl<'a, A: Allocator + Copy> TargetSet for SparseSet<'a, A> {
     ghost bits = { λ set. set };
 
     fn copy(&self) -> Result<Self, AllocError> {
-        match &self.held {
-            Held::List(list) => Ok(SparseSet {
-                held: Held::List(list.copy()?),
-            }),
-            Held::Row(row) => Ok(SparseSet {
-                held: Held::Row(row.copy()?),
-            }),
-        }
+        Ok(SparseSet {
+            targets: self.targets,
+            items: SmallVec::from_slice(*self.items.allocator(), self.items.as_slice())?,
+        })
     }
 
-    // The memory of a row is given back: whoever clears it mostly puts few in.
     fn clear(&mut self) {
-        match &mut self.held {
-            Held::List(list) => list.clear(),
-            Held::Row(row) => {
-                let list = row.emptied();
-                self.held = Held::List(list);
-            }
-        }
+        empty(&mut self.items);
     }
 
-    #[inline(always)]
     fn toggle(&mut self, target: u32) -> Result<(), AllocError> {
-        if let Held::List(list) = &mut self.held {
-            // By one target more it doesn't get long.
-            if list.is_inline() {
-                return list.toggle(target);
-            }
-        }
-        self.held.toggle(target)
+        toggle_in(&mut self.items, target)
     }
 
     #[inline(always)]
     fn add(&mut self, other: &Self, spare: &mut Self) -> Result<(), AllocError> {
-        match &other.held {
-            Held::List(list) => {
-                if list.is_empty() {
-                    Ok(())
-                } else {
-                    self.held.add_list(list, &mut spare.held)
-                }
-            }
-            Held::Row(row) => self.held.add_row(row),
+        if other.items.as_slice().is_empty() {
+            Ok(())
+        } else {
+            self.add_some(other, spare)
         }
     }
 
     fn list<B: Allocator + Copy>(&self, into: &mut Vec<u32, B>) -> Result<(), AllocError> {
-        match &self.held {
-            Held::List(list) => list.list(into),
-            Held::Row(row) => row.list(into),
-        }
+        list_ascending(self.items.as_slice(), into)
     }
 
     fn put_ascending(&mut self, targets: &[u32]) -> Result<bool, AllocError> {
-        self.clear();
-        match &mut self.held {
-            Held::List(list) => {
-                let put = list.put_ascending(targets)?;
-                self.held.settle()?;
-                Ok(put)
-            }
-            Held::Row(_) => Ok(false),
-        }
+        put_ascending(&mut self.items, targets)
     }
 
     #[inline(always)]
     fn kept(&self) -> Option<&[u32]> {
-        match &self.held {
-            Held::List(list) => list.kept(),
-            Held::Row(_) => None,
-        }
+        Some(self.items.as_slice())
     }
 
     fn sum_few(&self, other: &Self, sum: &mut [u32; FEW]) -> Option<usize> {
-        match (self.held.as_list(), other.held.as_list()) {
-            (Some(list), Some(other)) => list.sum_few(other, sum),
-            _ => None,
-        }
+        sum_few(self.items.as_slice(), other.items.as_slice(), sum)
     }
 
     fn sum_few_of_four(
@@ -133,16 +119,12 @@ impl<'a, A: Allocator + Copy> TargetSet for SparseSet<'a, A> {
         fourth: &Self,
         sum: &mut [u32; FEW],
     ) -> Option<usize> {
-        match (
-            self.held.as_list(),
-            second.held.as_list(),
-            third.held.as_list(),
-            fourth.held.as_list(),
-        ) {
-            (Some(first), Some(second), Some(third), Some(fourth)) => {
-                first.sum_few_of_four(second, third, fourth, sum)
-            }
-            _ => None,
-        }
+        sum_few_of_four(
+            self.items.as_slice(),
+            second.items.as_slice(),
+            third.items.as_slice(),
+            fourth.items.as_slice(),
+            sum,
+        )
     }
 }
