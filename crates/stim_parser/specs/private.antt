@@ -5,3 +5,4 @@ pub mod QubitSets
 pub mod Questions
 pub mod Significant
 pub mod ShortNumbers
+pub mod Remembered

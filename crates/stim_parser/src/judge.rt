@@ -78,7 +78,7 @@ fn arguments_of<'a>(
     if takes_no_arguments(form) && line.arguments.is_empty() {
         return Ok(false);
     }
-    if last.parentheses.are(form, line.arguments) {
+    if last.parentheses.recall(form, line.arguments) {
         return Ok(false);
     }
     match form {

@@ -1,12 +1,13 @@
 //! What was found last: the lines of a text have few names, and those that follow one another often the same in their
 //! parentheses.
-ghost use Rattle.std.specs.Prelude.{◌≡◌, ◌≢◌, ◌<◌, [], true, option_map, MatchBool};
+ghost use Rattle.std.specs.Prelude.{◌≡◌, ◌≢◌, ◌<◌, [], false, true, option_map, MatchBool};
 ghost use Rattle.step_model.specs.Probabilities.{probability_bound};
 ghost use Rattle.step_model.specs.Chances.{chance_of};
 ghost use Rattle.stim_parser.specs.declared.forms.ArgumentForm.TheVariants.{ProbabilityAtWill};
 ghost use Rattle.stim_parser.specs.Arguments.{arguments_in};
 ghost use Rattle.stim_parser.specs.Instructions.{keyword_named};
 ghost use Rattle.stim_parser.specs.Probabilities.{chance_in, AreProbabilities};
+ghost use Rattle.stim_parser.specs.private.Remembered.{IsAccepted, parentheses_in};
 
 use crate::forms::ArgumentForm;
 use crate::names::keyword_named;
@@ -140,27 +141,73 @@ impl<'a> LastProbability<'a> {
     }
 }
 
-/// What stood between the parentheses of the last line with accepted probabilities, and the form that was asked of it.
-#[derive(Drop)]
-pub struct LastParentheses<'a> {
+/// Accepted probabilities: what stood between some parentheses, and the form that was asked of it.
+#[derive(Clone, Copy)]
+struct Accepted<'a> {
     form: ArgumentForm,
     text: &'a [u8],
     // The probability, where there is one.
     chance: Option<ChanceText<'a>>,
 }
 
+impl<'a> Accepted<'a> {
+    /// No probability, of an instruction that may have one.
+    fn none() -> Self
+        ensures form { result.form ≡ ProbabilityAtWill }
+        ensures text { result.text.now ≡ [] }
+        ensures accepted { IsAccepted result }
+    {
+        Accepted {
+            form: ArgumentForm::ProbabilityAtWill,
+            text: &[],
+            chance: None,
+        }
+    }
+
+    /// Whether these are a text of which the same form is asked.
+    #[inline(always)]
+    fn are(&self, form: ArgumentForm, text: &[u8]) -> bool
+        ensures { MatchBool result
+            (parentheses_in self.now ≡ record { form = form; text = text.now })
+            (parentheses_in self.now ≢ record { form = form; text = text.now }) }
+    {
+        self.form == form && self.text == text
+    }
+}
+
+/// How many texts of parentheses are remembered.
+const TEXTS: usize = 8;
+
+/// The place of a text among those that are remembered.
+#[inline(always)]
+fn place_of_text(text: &[u8]) -> usize
+    ensures { result < TEXTS }
+{
+    match text {
+        [] => 0,
+        [.., last] => (*last as usize + 3 * (text.len() % TEXTS)) % TEXTS,
+    }
+}
+
+/// What stood between the parentheses of the last line with accepted probabilities, and the form that was asked of it. Others are
+/// remembered, each at a place that its text tells, since lines beside one another differ, but a text has few probabilities:
+/// contracts see the last one alone.
+#[derive(Drop)]
+pub struct LastParentheses<'a> {
+    last: Accepted<'a>,
+    others: [Accepted<'a>; TEXTS],
+}
+
 impl<'a> Model for LastParentheses<'a> {
-    ghost use Rattle.std.specs.Prelude.{◌≡◌, option_map};
-    ghost use Rattle.step_model.specs.Chances.{chance_of};
-    ghost use Rattle.stim_parser.specs.Arguments.{arguments_in};
+    ghost use Rattle.std.specs.Prelude.{◌≡◌, length, All};
     ghost use Rattle.stim_parser.specs.Parentheses.{Parentheses};
-    ghost use Rattle.stim_parser.specs.Probabilities.{chance_in, AreProbabilities};
+    ghost use Rattle.stim_parser.specs.private.Remembered.{IsAccepted, parentheses_in};
 
     ghost Value = { Parentheses };
 
-    ghost view = { λ last. record { form = last.form; text = last.text.now } };
+    ghost view = { λ p. parentheses_in p.last };
 
-    ghost invariant = { λ last. (AreProbabilities last.form (arguments_in last.text.now)) × (option_map chance_of last.chance ≡ chance_in (arguments_in last.text.now)) };
+    ghost invariant = { λ p. IsAccepted p.last × (length p.others ≡ 8) × All IsAccepted p.others };
 }
 
 impl<'a> LastParentheses<'a> {
@@ -169,28 +216,44 @@ impl<'a> LastParentheses<'a> {
         ensures { result ≡ record { form = ProbabilityAtWill; text = [] } }
     {
         LastParentheses {
-            form: ArgumentForm::ProbabilityAtWill,
-            text: &[],
-            chance: None,
+            last: Accepted::none(),
+            others: [Accepted::none(); TEXTS],
         }
     }
 
-    /// Whether a text is that of the last line, and the same form is asked of it. Then nothing is wrong with it.
+    /// Whether a text is that of the last line, or of another that is remembered, and the same form is asked of it. Then nothing
+    /// is wrong with it, and it is that of the last line.
     #[inline(always)]
-    pub fn are(&self, form: ArgumentForm, text: &[u8]) -> bool
+    pub fn recall(&mut self, form: ArgumentForm, text: &[u8]) -> bool
         ensures same { MatchBool result
-            (self.now ≡ record { form = form; text = text.now })
-            (self.now ≢ record { form = form; text = text.now }) }
+            (self.new ≡ record { form = form; text = text.now })
+            (self.new ≡ self.old) }
+        ensures differs { result ≡ false → self.old ≢ record { form = form; text = text.now } }
         ensures right { result ≡ true → AreProbabilities form (arguments_in text.now) }
     {
-        self.form == form && self.text == text
+        self.last.are(form, text) || self.recall_other(form, text)
+    }
+
+    /// The same of those that were there before the last.
+    fn recall_other(&mut self, form: ArgumentForm, text: &[u8]) -> bool
+        ensures same { MatchBool result
+            (self.new ≡ record { form = form; text = text.now })
+            (self.new ≡ self.old) }
+        ensures right { result ≡ true → AreProbabilities form (arguments_in text.now) }
+    {
+        let other = self.others[place_of_text(text)];
+        if !other.are(form, text) {
+            return false;
+        }
+        self.last = other;
+        true
     }
 
     /// The probability that stood there, where there was one.
     pub(crate) fn chance(&self) -> Option<ChanceText<'a>>
         ensures { option_map chance_of result ≡ chance_in (arguments_in self.now.text) }
     {
-        self.chance
+        self.last.chance
     }
 
     /// Keeps the arguments of a line that are probabilities, with which nothing is wrong, and the first of them.
@@ -204,7 +267,9 @@ impl<'a> LastParentheses<'a> {
         requires chance { option_map chance_of chance ≡ chance_in (arguments_in text.now) }
         ensures { self.new ≡ record { form = form; text = text.now } }
     {
-        *self = LastParentheses { form, text, chance };
+        let accepted = Accepted { form, text, chance };
+        self.others[place_of_text(text)] = accepted;
+        self.last = accepted;
     }
 }
 

@@ -5,9 +5,9 @@ use Rattle.stim_lexer.specs.Lexing.{cut_in}
 use Rattle.stim_parser.proofs.JudgeLemmas.{no_arguments, right_probabilities}
 use Rattle.stim_parser.proofs.judge.arguments_of.Goals as goal
 
-pub returns-then-are-clause-refusal : goal.returns-then-are-clause-refusal
-returns-then-are-clause-refusal c =
-    right_probabilities c.args.causes c.args.greatest c.args.form (cut_in c.args.line) c.if-line.false (c.are.ensures.right c.if-are.true)
+pub returns-then-recall-clause-refusal : goal.returns-then-recall-clause-refusal
+returns-then-recall-clause-refusal c =
+    right_probabilities c.args.causes c.args.greatest c.args.form (cut_in c.args.line) c.if-line.false (c.recall.ensures.right c.if-recall.true)
 
 pub returns-then-is_empty-clause-refusal : goal.returns-then-is_empty-clause-refusal
 returns-then-is_empty-clause-refusal c =

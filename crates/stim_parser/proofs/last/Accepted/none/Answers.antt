@@ -1,8 +1,8 @@
 use Rattle.std.proofs.Common.{refl}
 use Rattle.stim_parser.specs.Arguments.{arguments_in}
 use Rattle.stim_parser.specs.Limits.{has_wrong_arguments, has_wrong_probability}
-use Rattle.stim_parser.proofs.last.LastParentheses.new.Goals as goal
+use Rattle.stim_parser.proofs.last.Accepted.none.Goals as goal
 
-pub invariant_of-result : goal.invariant_of-result
+pub returns-clause-accepted : goal.returns-clause-accepted
 unfolding arguments_in has_wrong_arguments has_wrong_probability
-invariant_of-result c = ((refl, refl, refl), refl)
+returns-clause-accepted c = ((refl, refl, refl), refl)
