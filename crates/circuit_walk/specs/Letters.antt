@@ -4,7 +4,7 @@ use Rattle.std.specs.Prelude.{List, [], ◌∷◌, All, Option, None, Some}
 use Rattle.pauli_word.specs.declared.letter.Letter.{Letter}
 use Rattle.step_model.specs.declared.step.Term.{Term}
 use Rattle.stim_parser.specs.declared.target.Target.{Target}
-use Rattle.stim_parser.specs.declared.target.Target.TheVariants.{Star}
+use Rattle.stim_parser.specs.declared.target.Target.TheVariants.{Pauli, Star}
 use Rattle.circuit_walk.specs.declared.letters.Letters.{Letters}
 use Rattle.circuit_walk.specs.Targets.{term_at, term_of}
 use Rattle.circuit_walk.specs.Small.{HasSmallQubit}
@@ -27,6 +27,14 @@ behind_star targets = targets
 
 abbrev pub letters_in : Letters → List Term
 letters_in letters = letters_named letters.letter letters.targets.now
+
+-- the two letters of two Pauli targets alone, with no star between them
+abbrev pub two_named : Option Letter → List Target → Option (Term × Term)
+two_named None (Pauli i a p ∷ Pauli j b q ∷ []) = Some (term_of (Pauli i a p), term_of (Pauli j b q))
+two_named letter targets = None
+
+abbrev pub both_in : Letters → Option (Term × Term)
+both_in letters = two_named letters.letter letters.targets.now
 
 -- their qubits are within the limit
 abbrev pub AreSmall : Letters → Type 0

@@ -1,7 +1,7 @@
 //! Letters at qubits, lent from the targets of an instruction.
 
 ghost use Rattle.std.specs.Prelude.{◌≡◌, [], ◌∷◌, true, All, IfSome, MatchOption};
-ghost use Rattle.circuit_walk.specs.Letters.{AreSmall, behind_star, letters_in, named_letter};
+ghost use Rattle.circuit_walk.specs.Letters.{AreSmall, behind_star, both_in, letters_in, named_letter};
 ghost use Rattle.circuit_walk.specs.Small.{HasSmallQubit};
 ghost use Rattle.circuit_walk.specs.Targets.{is_inverted, pauli_letter};
 ghost use Rattle.stim_parser.specs.Limits.{is_plain_or_inverted, qubit_of};
@@ -79,6 +79,35 @@ fn behind_star(targets: &[TargetWord]) -> &[TargetWord]
 }
 
 impl<'c> Letters<'c> {
+    /// The two letters at their qubits, where these are the factors of a product of just two, with no star between them,
+    /// as most errors of more than one letter are.
+    #[inline(always)]
+    pub fn both(self) -> Option<(Term, Term)>
+        requires { AreSmall self }
+        ensures both { result ≡ both_in self.entry }
+        ensures letters { IfSome result (λ both. letters_in self.entry ≡ both.0 ∷ both.1 ∷ []) }
+    {
+        if self.letter.is_some() {
+            return None;
+        }
+        match self.targets {
+            [first, second] => match (first.get(), second.get()) {
+                (Target::Pauli(_, a, p), Target::Pauli(_, b, q)) => Some((
+                    Term {
+                        qubit: p as u32,
+                        letter: a,
+                    },
+                    Term {
+                        qubit: q as u32,
+                        letter: b,
+                    },
+                )),
+                _ => None,
+            },
+            _ => None,
+        }
+    }
+
     /// The first letter at its qubit, and those behind it.
     #[inline(always)]
     pub fn split_first(self) -> Option<(Term, Letters<'c>)>

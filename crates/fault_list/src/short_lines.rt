@@ -107,7 +107,7 @@ fn put_record(buffer: &mut [u8], at: usize, record: &mut Counter, r: u32) -> usi
     put_byte(buffer, end, b']')
 }
 
-// Puts the word of some terms. That of one, as most words are, is written here.
+// Puts the word of some terms. That of one or two, as nearly all words are, is written here with no loop.
 #[inline(always)]
 fn put_word(
     buffer: &mut [u8],
@@ -122,6 +122,9 @@ fn put_word(
         → Puts WORD at (word_text (word_of_terms qubits (letters_in terms.entry)))
         buffer.old buffer.new result }
 {
+    if let Some((first, second)) = terms.both() {
+        return put_two(buffer, at, names, first, second);
+    }
     let (first, more) = terms.split_first()?;
     match more.split_first() {
         None => put_lone(buffer, at, names, first),
@@ -142,8 +145,8 @@ fn put_lone(buffer: &mut [u8], at: usize, names: &QubitNames, term: Term) -> Opt
     Some(put_factor(buffer, at, names, term))
 }
 
-// The same of any terms. Two, as most words of more have, are written with no loop; a long word is kept. It stands apart, so that the
-// loop over errors of one letter holds only what these need.
+// The same of any terms; a long word is kept. It stands apart, so that the loop over errors of one or two letters holds only what
+// these need.
 #[inline(never)]
 fn put_some(
     buffer: &mut [u8],
@@ -158,14 +161,7 @@ fn put_some(
         → Puts WORD at (word_text (word_of_terms qubits (letters_in terms.entry)))
         buffer.old buffer.new result }
 {
-    let (first, more) = terms.split_first()?;
-    match more.split_first() {
-        None => put_lone(buffer, at, names, first),
-        Some((second, rest)) => match rest.split_first() {
-            None => put_two(buffer, at, names, first, second),
-            Some(_) => word.put(buffer, at, names, terms),
-        },
-    }
+    word.put(buffer, at, names, terms)
 }
 
 // The same of two terms. Those at descending qubits are exchanged first.
