@@ -1,7 +1,7 @@
 //! The lines of runs, of random targets, of predictions and of refusals. Each text is built in one block of memory.
-ghost use Rattle.std.specs.Prelude.{◌≡◌, ◌++◌, ◌∷◌, ◌+◌, codes, IfOk, OnOk};
+ghost use Rattle.std.specs.Prelude.{◌≡◌, ◌++◌, ◌∷◌, ◌+◌, codes, length, map, IfOk, OnOk};
 ghost use Rattle.error_models.specs.ModelText.{target_text};
-ghost use Rattle.frames.specs.Lines.{line_of};
+ghost use Rattle.frames.specs.Lines.{digit_of, line_of};
 ghost use Rattle.engine.specs.Output.{refusal_line};
 
 use forward_sim::Records;
@@ -85,14 +85,27 @@ fn push_target<A: Allocator + Copy>(
     Ok(())
 }
 
+/// Appends a line with a digit for each truth value.
 fn push_line<A: Allocator + Copy>(text: &mut Vec<u8, A>, values: &[bool]) -> Result<(), AllocError>
     ensures { OnOk result (text.new.items ≡ text.old.items ++ line_of values.now) }
 {
-    for value in values {
-        text.push(digit(*value))?;
-    }
+    let start = text.len();
+    // No memory has as many bytes as this fails for.
+    let end = start.checked_add(values.len()).ok_or(AllocError)?;
+    text.resize(end, b'0')?;
+    put_digits(&mut text.as_mut_slice()[start..], values);
     text.push(b'\n')?;
     Ok(())
+}
+
+/// Puts a digit for each truth value. It stands apart, so that several are put at a time.
+fn put_digits(digits: &mut [u8], values: &[bool])
+    requires { length digits.old ≡ length values.now }
+    ensures { digits.new ≡ map digit_of values.now }
+{
+    for index in 0..values.len() {
+        digits[index] = digit(values[index]);
+    }
 }
 
 /// The line that says why an order is refused.
