@@ -78,13 +78,13 @@ fn arguments_of<'a>(
     if takes_no_arguments(form) && line.arguments.is_empty() {
         return Ok(false);
     }
+    if let ArgumentForm::WholeNumbers = form {
+        return whole_numbers_of(causes, greatest, line);
+    }
     if last.parentheses.recall(form, line.arguments) {
         return Ok(false);
     }
-    match form {
-        ArgumentForm::WholeNumbers => whole_numbers_of(causes, greatest, line),
-        _ => closed_arguments_of(last, causes, greatest, form, line),
-    }
+    closed_arguments_of(last, causes, greatest, form, line)
 }
 
 /// The same for a line that takes whole numbers, and on which no tag and no parentheses stay open. Most are short, and
