@@ -1,5 +1,5 @@
 //! Faults that don't happen: one run, or 64 side by side, pass over a stretch of them at once.
-ghost use Rattle.std.specs.Prelude.{◌≡◌, ◌+◌, ◌<◌, ◌≤◌, ℕ, false, IfSome, slice_get};
+ghost use Rattle.std.specs.Prelude.{◌≡◌, ◌+◌, ◌<◌, ◌≤◌, ℕ, false, true, IfSome, slice_get};
 
 /// What is said of a fault: whether it happens, of one run, or in which of 64 runs, a bit for each.
 pub trait Happening: Copy + Drop {
@@ -8,7 +8,8 @@ pub trait Happening: Copy + Drop {
 
     /// Whether it happens in a run.
     fn happens(self) -> bool
-        ensures { result ≡ false → nowhere self };
+        ensures no { result ≡ false → nowhere self }
+        ensures yes { result ≡ true → nowhere self → ⊥ };
 }
 
 impl Happening for bool {
@@ -41,6 +42,7 @@ pub fn quiet_count<H: Happening>(faults: &[H], first: u32, count: usize) -> usiz
         → first ≤ f
         → f < first + result
         → IfSome (slice_get faults.now f) H.nowhere }
+    ensures next { result < count → IfSome (slice_get faults.now (first + result)) H.nowhere → ⊥ }
 {
     let start = (first as usize).min(faults.len());
     let most = count.min(faults.len() - start);

@@ -17,7 +17,7 @@ loop-passed-preserved g c =
         | inl before ↦ c.loop-passed.invariant.none f low before
         | inr behind ↦
             let same : place ≡ f = omega arith in
-            subst (λ o. IfSome o g.H.Happening.nowhere) (sym here ∙ ap (slice_get faults) same) (c.happens.ensures c.if-happens.false)
+            subst (λ o. IfSome o g.H.Happening.nowhere) (sym here ∙ ap (slice_get faults) same) (c.happens.ensures.no c.if-happens.false)
       ];
     }
 
@@ -26,3 +26,12 @@ returns-clause-none g c f low high = elim (cases_lt f (c.args.first + c.loop-pas
   | inl before ↦ c.loop-passed.invariant.none f low before
   | inr behind ↦ subst (λ o. IfSome o g.H.Happening.nowhere) (sym (slice_get_past c.args.faults.now f (omega arith))) tt
 ]
+
+-- The fault that it stops at happens in some run.
+pub returns-then-happens-clause-next : goal.returns-then-happens-clause-next
+returns-then-happens-clause-next g c low nowhere =
+    let faults = c.args.faults.now in
+    let place = c.min-start.result + c.loop-passed.passed in
+    let here = slice_get_read faults (length faults) place c.index-faults-start.result refl (omega arith) c.index-faults-start.is in
+    let same : c.args.first + c.loop-passed.passed ≡ place = omega arith in
+    c.happens.ensures.yes c.if-happens.true (subst (λ o. IfSome o g.H.Happening.nowhere) (ap (slice_get faults) same ∙ here) nowhere)
