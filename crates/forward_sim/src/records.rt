@@ -25,6 +25,13 @@ impl<A: Allocator + Copy> Records<A> {
         Records { outcomes }
     }
 
+    /// The outcomes.
+    pub fn outcomes(&self) -> &[bool]
+        ensures { result.now ≡ self.now }
+    {
+        self.outcomes.as_slice()
+    }
+
     /// How many records there are.
     pub fn len(&self) -> usize
         ensures { result ≡ length self.now }
