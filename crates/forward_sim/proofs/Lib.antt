@@ -23,5 +23,6 @@ pub mod Rotations
 pub mod PassedFaults
 pub mod SeatLemmas
 pub mod AllLaneLemmas
+pub mod JumpLemmas
 pub mod SideLemmas
 pub mod HitLemmas

@@ -11,3 +11,4 @@ pub mod Along
 pub mod Takers
 pub mod Answers
 pub mod BoundTakers
+pub mod Jumps

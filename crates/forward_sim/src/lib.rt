@@ -12,6 +12,7 @@ mod fault_bounds;
 mod fault_draws;
 mod following;
 mod forward;
+mod jump;
 mod keeping;
 mod kept_words;
 mod lane_draws;

@@ -9,6 +9,7 @@ use crate::coin_draws::draw_coins;
 use crate::copies::copy_of;
 use crate::fault_bounds::FaultBounds;
 use crate::fault_draws::draw_faults;
+use crate::jump::Jump;
 use crate::span::Span;
 use rand_pcg::Pcg64;
 use std::alloc::Allocator;
@@ -49,8 +50,12 @@ fn set_apart(generators: &mut [Pcg64], words: u128, rng: &mut Pcg64)
         → generator_at generators.new l ≡ after_words (l * words) rng.old }
     ensures taken { rng.new ≡ after_words (length generators.old * words) rng.old }
 {
+    let jump = Jump::of(rng.stream(), words);
+    // A copy stays in registers.
+    let mut next = copy_of(rng);
     for l in 0..generators.len() {
-        generators[l] = copy_of(rng);
-        rng.advance(words);
+        generators[l] = copy_of(&next);
+        jump.leap(&mut next);
     }
+    *rng = next;
 }

@@ -1,5 +1,5 @@
 -- One more generator stands where the next shot begins.
-use Rattle.std.proofs.Common.{◌≡◌, ◌+◌, ◌*◌, ◌<◌, length, set, get_or-set_same, get_or-set_other, sym, ap, subst, ◌∙◌, arith, ⊎_elim}
+use Rattle.std.proofs.Common.{◌≡◌, ◌+◌, ◌*◌, ◌<◌, length, set, get_or-set_same, get_or-set_other, sym, ap, ap₂, subst, ◌∙◌, arith, ⊎_elim}
 use Rattle.std.proofs.lemmas.Bool.{cases_eq}
 use Rattle.forward_sim.specs.Drawn.{after_words}
 use Rattle.forward_sim.specs.private.AllLanes.{generator_at, nobody}
@@ -9,7 +9,7 @@ use Rattle.forward_sim.proofs.side_draws.set_apart.Goals as goal
 pub loop-l-init : goal.loop-l-init
 loop-l-init c =
     let none : 0 * c.args.words ≡ 0 = omega arith in
-    record { each = λ k h. absurd (omega arith); taken = sym (ap (λ n. after_words n c.args.rng.now) none ∙ after_words-none c.args.rng.now) }
+    record { each = λ k h. absurd (omega arith); taken = c.copy_of-next.ensures ∙ sym (ap (λ n. after_words n c.args.rng.now) none ∙ after_words-none c.args.rng.now) }
 
 pub loop-l-preserved : goal.loop-l-preserved
 loop-l-preserved c =
@@ -30,8 +30,8 @@ loop-l-preserved c =
           get_or-set_other c.loop-l.generators l k one nobody ne ∙ so_far.each k (omega (arith, h, ne)))
           (cases_eq k l);
       taken =
-          c.advance.ensures
-          ∙ (ap (after_words words) so_far.taken
+          c.leap.ensures
+          ∙ (ap₂ after_words c.of-jump.ensures so_far.taken
           ∙ (sym (after_words-add (l * words) words from)
           ∙ ap (λ n. after_words n from) next));
     }

@@ -8,5 +8,5 @@ abbrev pub invariant-loop-l : goal.invariant-loop-l
 invariant-loop-l l =
     record {
       each : (k : ℕ) → k < l.l → generator_at l.generators k ≡ after_words (k * l.words) l.fn.rng;
-      taken : l.rng ≡ after_words (l.l * l.words) l.fn.rng;
+      taken : l.next ≡ after_words (l.l * l.words) l.fn.rng;
     }
