@@ -35,9 +35,9 @@ returns-clause-drawn g c =
           (λ k l. faults.lanes.drawn j k (omega (arith, h, apart_many)) l ∙ ap (λ r. fault_hits bounds k (word_at r k)) (starts j h));
       coins = λ j h.
           lane_is j collapses (λ k. coin_hits c.args.passed k (word_at (after_words n (start j)) k)) c.draw_coins.new.coins coins.size
-          (λ k l. coins.lanes.drawn j k (omega (arith, h, then_many)) l ∙ ap (λ r. coin_hits c.args.passed k (word_at r k)) (starts_then j h));
+          (λ k l. coins.drawn.drawn j k (omega (arith, h, then_many)) l ∙ ap (λ r. coin_hits c.args.passed k (word_at r k)) (starts_then j h));
       idle_faults = λ j h l. lane_idle j n c.draw_faults.new.faults faults.size (λ k m. faults.lanes.idle j k (omega (arith, h, apart_many)) m);
-      idle_coins = λ j h l. lane_idle j collapses c.draw_coins.new.coins coins.size (λ k m. coins.lanes.idle j k (omega (arith, h, then_many)) m);
+      idle_coins = λ j h l. lane_idle j collapses c.draw_coins.new.coins coins.size (λ k m. coins.drawn.idle j k (omega (arith, h, then_many)) m);
     }
 
 pub returns-clause-taken : goal.returns-clause-taken
