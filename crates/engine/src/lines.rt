@@ -20,10 +20,7 @@ pub(crate) fn run_lines<A: Allocator + Copy>(
 {
     let length = records.len().saturating_add(detections.len());
     let mut text = Vec::with_capacity(alloc, length.saturating_add(2))?;
-    for index in 0..records.len() {
-        text.push(digit(records.get(index)))?;
-    }
-    text.push(b'\n')?;
+    push_line(&mut text, records.outcomes())?;
     push_line(&mut text, detections)?;
     Ok(text)
 }
