@@ -17,7 +17,7 @@ blank_phase false true = refl
 blank_phase true false = refl
 blank_phase true true = refl
 
-word_phase-blank : (xa za : ℕ) → word_phase xa za 0 0 ≡ 0
+pub word_phase-blank : (xa za : ℕ) → word_phase xa za 0 0 ≡ 0
 unfolding word_phase
 word_phase-blank xa za =
     total_none (λ j. letter_phase (bit_of xa j) (bit_of za j) (bit_of 0 j) (bit_of 0 j)) 64

@@ -3,6 +3,7 @@ use Rattle.std.proofs.Common.{◌≡◌, ◌≢◌, ◌⊎◌, ℕ, ◌+◌, ◌
 use Rattle.std.proofs.lemmas.Bool.{cases_eq, eq-eqb, ne_eqb}
 use Rattle.bit_rows.specs.private.Marks.{MarksOnes, BlanksBelow}
 use Rattle.bit_rows.specs.Rows.{exclusive_or}
+use Rattle.bit_rows.specs.private.Multiplied.{MarksBoth}
 use Rattle.bit_rows.specs.private.Spans.{XorsWithin}
 use Rattle.bit_rows.specs.private.Words.{bit_of, bit_in}
 use Rattle.bit_rows.proofs.BitLaws.{bit_of-zero, zero_from_bits}
@@ -73,6 +74,11 @@ unmarked_zero marks words k fits marked none =
     (λ j l.
     let e : (k * 64 + j) / 64 ≡ k = omega (arith, l) in
     sym (bit_in_word words k j l) ∙ marked.blank (k * 64 + j) (omega (arith, none.0, e)) (ap (bit_of marks) e ∙ none.1))
+
+-- the same of both lists of a word
+pub unmarked_both : (marks : ℕ) (x z : List ℕ) (k : ℕ) → ((k : ℕ) → get_or x k 0 < 2 ^ 64) → ((k : ℕ) → get_or z k 0 < 2 ^ 64) → MarksBoth marks x z
+    → (k < 64) × (bit_of marks k ≡ false) → (get_or x k 0 ≡ 0) × (get_or z k 0 ≡ 0)
+unmarked_both marks x z k x_fits z_fits marked none = (unmarked_zero marks x k x_fits marked.of_x none, unmarked_zero marks z k z_fits marked.of_z none)
 
 -- ---- words noted as blank
 pub blanks_none : (x z : List ℕ) (high : ℕ) → BlanksBelow 0 x z high

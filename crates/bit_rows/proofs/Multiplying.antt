@@ -1,13 +1,16 @@
 -- The steps of the loops that multiply the machine words of a Pauli word by those of another: none yet, one word more, one
 -- block more, and all of them.
-use Rattle.std.proofs.Common.{◌≡◌, ℕ, ◌+◌, ◌*◌, ◌<◌, ◌≤◌, ◌%◌, List, length, get_or, set, sym, ap, ap₂, subst, ◌∙◌, arith, ⊎_elim, bit_xor}
+use Rattle.std.proofs.Common.{◌≡◌, ℕ, ◌+◌, ◌*◌, ◌<◌, ◌≤◌, ◌-◌, ◌%◌, List, length, get_or, set, sym, ap, ap₂, subst, ◌∙◌, arith, ⊎_elim, bit_xor}
 use Rattle.std.proofs.lemmas.Bool.{cases_lt}
 use Rattle.std.proofs.lemmas.List.{get_or_past}
 use Rattle.bit_rows.specs.private.Multiplied.{HaveOneLength, MultipliesFirst, Multiplies}
 use Rattle.bit_rows.specs.private.Spans.{XorsWithin}
 use Rattle.bit_rows.specs.private.WordTotals.{word_phase, words_phase, carried, carried_by}
 use Rattle.bit_rows.proofs.Blocks.{XorsWithin-none, XorsWithin-one, XorsWithin-join}
+use Rattle.bit_rows.specs.private.Totals.{total}
+use Rattle.bit_rows.proofs.Blanks.{word_phase-blank, XorsWithin-blank}
 use Rattle.bit_rows.proofs.Carries.{words_phase-zero, power_more}
+use Rattle.bit_rows.proofs.Sums.{total-split, total_none}
 use Rattle.bit_rows.proofs.VectorLanes.{block_more}
 
 module _ (xa za xb zb : List ℕ) where
@@ -49,6 +52,30 @@ module _ (xa za xb zb : List ℕ) where
         x = XorsWithin-join xa xb xa' new_xa 0 at (at + 4) (omega arith) (omega arith) before.x x;
         z = XorsWithin-join za zb za' new_za 0 at (at + 4) (omega arith) (omega arith) before.z z;
       })
+
+  -- words without letters bring no power
+  phase_skipped : (low high : ℕ) → low ≤ high → ((k : ℕ) → low ≤ k → k < high → (get_or xb k 0 ≡ 0) × (get_or zb k 0 ≡ 0))
+      → words_phase xa za xb zb low ≡ words_phase xa za xb zb high
+  unfolding words_phase
+  phase_skipped low high le blank =
+      let phase : ℕ → ℕ = λ k. word_phase (get_or xa k 0) (get_or za k 0) (get_or xb k 0) (get_or zb k 0) in
+      let e : high ≡ low + (high - low) = omega arith in
+      let none : total (λ i. phase (low + i)) (high - low) ≡ 0 = total_none (λ i. phase (low + i)) (high - low)
+      (λ i h.
+      let b = blank (low + i) (omega arith) (omega arith) in
+      ap₂ (word_phase (get_or xa (low + i) 0) (get_or za (low + i) 0)) b.0 b.1 ∙ word_phase-blank (get_or xa (low + i) 0) (get_or za (low + i) 0)) in
+      sym (ap (total phase) e ∙ omega (arith, total-split phase low (high - low), none))
+
+  -- and are passed over
+  pub words_skipped : (xa' za' : List ℕ) (held low high : ℕ) → low ≤ high
+      → ((k : ℕ) → low ≤ k → k < high → (get_or xb k 0 ≡ 0) × (get_or zb k 0 ≡ 0))
+      → MultipliesFirst xa za xb zb xa' za' held low → MultipliesFirst xa za xb zb xa' za' held high
+  words_skipped xa' za' held low high le blank before =
+      record {
+        power = before.power ∙ ap (λ s. s % 4) (phase_skipped low high le blank);
+        x = XorsWithin-join xa xb xa' xa' 0 low high (omega arith) le before.x (XorsWithin-blank xa' xb low high (λ k h l. (blank k h l).0));
+        z = XorsWithin-join za zb za' za' 0 low high (omega arith) le before.z (XorsWithin-blank za' zb low high (λ k h l. (blank k h l).1));
+      }
 
   -- the same, held otherwise
   pub held_otherwise : (xa' za' : List ℕ) (held held' n n' : ℕ) → MultipliesFirst xa za xb zb xa' za' held n → held' % 4 ≡ held % 4 → n ≡ n' → MultipliesFirst xa za xb zb xa' za' held' n'

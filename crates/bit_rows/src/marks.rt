@@ -34,18 +34,19 @@ pub(crate) fn next_marked(marks: u64, word: usize, end: usize) -> usize
     first_bit_from(marks, word).unwrap_or(64)
 }
 
-// Whether a block is known to have no ones.
+// The first block from `block` on, if that comes before `end`, that isn't known to have no ones, and else `end`.
 #[inline(always)]
-pub(crate) fn is_block_unmarked(marks: u64, block: usize) -> bool
-    ensures { result ≡ true
-        → (k : ℕ)
-        → k < 4
-        → (block * 4 + k < 64) × (bit_of marks (block * 4 + k) ≡ false) }
+pub(crate) fn marked_block(marks: u64, block: usize, end: usize) -> usize
+    requires order { block ≤ end }
+    requires few { end * 4 < 2 ^ 64 }
+    ensures from { block ≤ result }
+    ensures within { result ≤ end }
+    ensures unmarked { (k : ℕ)
+        → block * 4 ≤ k
+        → k < result * 4
+        → (k < 64) × (bit_of marks k ≡ false) }
 {
-    if block >= 16 {
-        return false;
-    }
-    (marks >> (block * 4)) & 15 == 0
+    (next_marked(marks, block * 4, end * 4) / 4).min(end)
 }
 
 // Sets the mark of a word, where it has one.

@@ -1,13 +1,13 @@
 // The product of two Pauli words in one pass: the x bits and the z bits of the first, lists of machine words, become
 // those of the product, and the power of i is answered. It goes four machine words at a time, so that the carry words
-// stay in registers of 16 bytes, and skips the blocks without marks, in which the second word has no letters.
+// stay in registers of 16 bytes, and goes from block to block that has a mark: in others the second word has no letters.
 ghost use Rattle.std.specs.Prelude.{◌≡◌, ℕ, ◌+◌, ◌*◌, ◌/◌, ◌%◌, ◌<◌, ◌≤◌, true, length, slice_index};
 ghost use Rattle.bit_rows.specs.private.Marks.{BlanksBelow};
 ghost use Rattle.bit_rows.specs.private.Multiplied.{HaveOneLength, MarksBoth, Multiplies, MultipliesFirst};
 ghost use Rattle.bit_rows.specs.private.Spans.{XorsWithin};
 ghost use Rattle.bit_rows.specs.private.WordTotals.{carried, word_phase};
 
-use crate::marks::{is_block_unmarked, mark_block_where};
+use crate::marks::{mark_block_where, marked_block};
 use crate::phase::{carry, carry_block, join_lanes, power_held};
 use std::simd::prelude::*;
 
@@ -66,7 +66,7 @@ fn multiply_many(xa: &mut [u64], za: &mut [u64], xb: &[u64], zb: &[u64], marks: 
     ((power_held(ones, twos) % 4) as u8, noted)
 }
 
-// The whole blocks of four words: answers the carry words after them, and the words without letters as above.
+// The whole blocks of four words, of which most have no mark where a word is long: answers the carry words after them, and the words without letters as above.
 fn multiply_blocks(
     xa: &mut [u64],
     za: &mut [u64],
@@ -87,13 +87,14 @@ fn multiply_blocks(
     let mut ones = u64x4::splat(0);
     let mut twos = u64x4::splat(0);
     let mut noted = 0u64;
-    for block in 0..xb.len() / 4 {
-        let (next_ones, next_twos, emptied) = multiply_block(
-            ones, twos, xa, za, xb, zb, marks, block,
-        );
+    let end = xb.len() / 4;
+    let mut block = marked_block(marks, 0, end);
+    while block < end {
+        let (next_ones, next_twos, emptied) = multiply_block(ones, twos, xa, za, xb, zb, block);
         ones = next_ones;
         twos = next_twos;
         noted = mark_block_where(noted, block, emptied);
+        block = marked_block(marks, block + 1, end);
     }
     let (one, two) = join_lanes(&ones.to_array(), &twos.to_array());
     (one, two, noted)
@@ -114,7 +115,7 @@ fn multiply_all(xa: &mut [u64], za: &mut [u64], xb: &[u64], zb: &[u64]) -> (u64,
     join_lanes(&ones.to_array(), &twos.to_array())
 }
 
-// One block. The last answer is true only where no letter is left in it. Most blocks of a long word have no letters.
+// One block. The last answer is true only where no letter is left in it.
 #[inline(always)]
 fn multiply_block(
     ones: u64x4,
@@ -123,14 +124,12 @@ fn multiply_block(
     za: &mut [u64],
     xb: &[u64],
     zb: &[u64],
-    marks: u64,
     block: usize,
 ) -> (u64x4, u64x4, bool)
     requires xa { block * 4 + 4 ≤ length xa.old }
     requires za { block * 4 + 4 ≤ length za.old }
     requires xb { block * 4 + 4 ≤ length xb.now }
     requires zb { block * 4 + 4 ≤ length zb.now }
-    requires marks { MarksBoth marks xb.now zb.now }
     ensures power { (k : ℕ) → k < 4 → carried (slice_index result.0 k) (slice_index result.1 k) % 4
         ≡ (carried (slice_index ones k) (slice_index twos k)
         + word_phase (slice_index xa.old (block * 4 + k)) (slice_index za.old (block * 4 + k))
@@ -142,10 +141,6 @@ fn multiply_block(
         → k < 4
         → (slice_index xa.new (block * 4 + k) ≡ 0) × (slice_index za.new (block * 4 + k) ≡ 0) }
 {
-    let unmarked = is_block_unmarked(marks, block);
-    if unmarked {
-        return (ones, twos, false);
-    }
     let (next_ones, next_twos) = carry_block(ones, twos, xa, za, xb, zb, block * 4);
     let bits = xor_both(xa, za, xb, zb, block * 4);
     (next_ones, next_twos, bits == 0)
