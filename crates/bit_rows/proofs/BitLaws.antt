@@ -2,10 +2,11 @@
 -- ones is the sum of the bits.
 use Rattle.std.proofs.Common.{lit<, lit≤, add-one, ◌≡◌, ◌-◌, ℕ, zero, suc, ◌+◌, ◌*◌, ◌/◌, ◌%◌, ◌^◌, ◌<◌, ◌≤◌, Bool, true, false, not, cond, eqb, ◌&&◌, ◌||◌, min, max, refl, sym, ap, ◌∙◌, arith, bit_and, bit_or, bit_xor, ⊎_elim}
 use Rattle.std.specs.Int.{bit_at, bit_not, w64, trailing_zeros}
+use Rattle.std.specs.Int.Bits.{xor_add_and}
 use Rattle.std.specs.Int.RustNames.{count_ones}
 use Rattle.std.proofs.Math.Pow.{pow_mono}
-use Rattle.std.proofs.lemmas.Bool.{cases_eq, cases_lt, eq-eqb, ne_eqb}
-use Rattle.std.proofs.lemmas.Nat.{ones_cat, ones_le_self, zero_from_ones, shr_below, shr-shr, one_shl, pow-add}
+use Rattle.std.proofs.lemmas.Bool.{cases_eq, cases_lt, eq-eqb, ne_eqb, true≢false}
+use Rattle.std.proofs.lemmas.Nat.{pow_pos, ones_cat, ones_le_self, zero_from_ones, shr_below, shr-shr, one_shl, pow-add}
 use Rattle.std.proofs.lemmas.Nat.Bits.{bit_at-lt, bit_at_and, bit_at_or, bit_at_not, bit_at_xor, bit_at-suc, bit_at_lowest, bit_at-pow_same, bit_at-pow_other, bit_at_set_same, bit_at_set_other, bit_at_clear_same, bit_at_clear_other, bit_at-zero, same_from_bits_below, shr_and_one, bit_at_ones, bit_at_mask_below, bit_at_mask_above, bit_at_above, bit_at-trailing_zeros}
 use Rattle.bit_rows.specs.Rows.{exclusive_or}
 use Rattle.bit_rows.specs.private.Totals.{total}
@@ -158,6 +159,18 @@ turned_where false false = refl
 pub bit_of_flip : (word k j : ℕ) → k < 64 → bit_of (bit_xor word (1 * 2 ^ k % 2 ^ 64)) j ≡ cond (eqb j k) (not (bit_of word j)) (bit_of word j)
 bit_of_flip word k j within =
     bit_of-xor word (1 * 2 ^ k % 2 ^ 64) j ∙ ap (exclusive_or (bit_of word j)) (bit_of_one k j within) ∙ turned_where (bit_of word j) (eqb j k)
+
+-- where bit k is set, `word ^ 1 << k` is less
+pub less_without : (word k : ℕ) → k < 64 → bit_of word k ≡ true → bit_xor word (1 * 2 ^ k % 2 ^ 64) < word
+less_without word k within set =
+    let mask : 1 * 2 ^ k % 2 ^ 64 ≡ 2 ^ k = one_shl k 64 within in
+    let some : 0 < 2 ^ k = pow_pos k in
+    ⊎_elim
+    (λ (small : bit_and word (2 ^ k) < 2 ^ k). absurd (true≢false (sym set ∙ unset_below word k small)))
+    (λ (large : 2 ^ k ≤ bit_and word (2 ^ k)).
+    let less : bit_xor word (2 ^ k) < word = omega (arith, xor_add_and word (2 ^ k), large, some) in
+    rw mask less)
+    (cases_lt (bit_and word (2 ^ k)) (2 ^ k))
 
 ones_of_bit : (a : ℕ) → a < 2 → count_ones a ≡ a
 ones_of_bit zero h = omega (arith, ones_le_self 0)

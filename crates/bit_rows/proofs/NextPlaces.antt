@@ -99,7 +99,7 @@ none_past first second start i low long end before k h =
     past words far = bit_in_is words k ∙ (ap (λ v. bit_of v (k % 64)) (get_or_past words (k / 64) 0 far) ∙ bit_of-zero (k % 64))
 
 -- ---- the same of the rows that the lists hold
-bit_seen : (n : ℕ) (words : List ℕ) (row : List Bool) → HoldsRow n words → row_of n words ≡ row → (k : ℕ) → get_or row k false ≡ bit_in words k
+pub bit_seen : (n : ℕ) (words : List ℕ) (row : List Bool) → HoldsRow n words → row_of n words ≡ row → (k : ℕ) → get_or row k false ≡ bit_in words k
 bit_seen n words row held seen k =
     ⊎_elim
     (λ (h : k < n). ap (λ v. get_or v k false) (sym seen) ∙ get_or-row_of n words k h)

@@ -1,14 +1,17 @@
 -- What the words of rows count is what the rows say: sums over the places of a row, and over the bits of its words.
-use Rattle.std.proofs.Common.{lit<, ◌≡◌, ℕ, zero, suc, ◌+◌, ◌*◌, ◌%◌, ◌<◌, List, map, length, get_or, Bool, true, false, ◌&&◌, eqb, refl, sym, ap, ◌∙◌, arith}
+use Rattle.std.proofs.Common.{lit<, add-one, ◌≡◌, ℕ, zero, suc, ◌+◌, ◌*◌, ◌%◌, ◌^◌, ◌-◌, ◌<◌, ◌≤◌, List, map, length, get_or, Bool, true, false, ◌&&◌, eqb, refl, sym, ap, ◌∙◌, arith}
+use Rattle.std.specs.Prelude.{count_by}
 use Rattle.std.specs.List.{range_with_len}
+use Rattle.std.proofs.lemmas.List.FromFn.{sum_by-map-range_with_len_more}
+use Rattle.std.proofs.lemmas.List.Sums.{count_by-le-length}
 use Rattle.std.proofs.Math.Nat.{add-mod-mod}
 use Rattle.bit_rows.specs.Rows.{exclusive_or, and_parity_of, letter_phase, phase_sum, phase_of}
 use Rattle.bit_rows.specs.private.Totals.{total}
 use Rattle.bit_rows.specs.private.Words.{bit_of, bit_in, row_of, HoldsRow}
-use Rattle.bit_rows.specs.private.WordTotals.{value, word_common, common_ones, word_phase, words_phase}
+use Rattle.bit_rows.specs.private.WordTotals.{value, word_ones, ones_of, word_common, common_ones, word_phase, words_phase}
 use Rattle.bit_rows.proofs.BitLaws.{sum_of_bits}
-use Rattle.bit_rows.proofs.Places.{bit_in_word}
-use Rattle.bit_rows.proofs.Sums.{total_same, total_first, total-blocks, total_blank}
+use Rattle.bit_rows.proofs.Places.{bit_in_word, row_long}
+use Rattle.bit_rows.proofs.Sums.{total_same, total_first, total-split, total-blocks, total_blank}
 
 value_lt : (b : Bool) → value b < 2
 value_lt true = lit< tt
@@ -48,7 +51,22 @@ phase_of_maps xa za xb zb a (suc n) =
     let here : power a ≡ power (a + 0) = let e : a ≡ a + 0 = omega arith in ap power e in
     ap (λ s. power a + s) (phase_of_maps xa za xb zb (a + 1) n ∙ later) ∙ ap (λ s. s + total (λ i. power (a + suc i)) n) here ∙ sym (total_first (λ i. power (a + i)) n)
 
+count_of_map : (f : ℕ → Bool) (n : ℕ) → count_by (λ b. b) (map f (range_with_len 0 n)) ≡ total (λ i. value (f i)) n
+unfolding total
+count_of_map f zero = refl
+count_of_map f (suc n) =
+    ap (λ m. count_by (λ b. b) (map f (range_with_len 0 m))) (sym (add-one n))
+    ∙ sum_by-map-range_with_len_more value f 0 n n (omega arith)
+    ∙ ap (λ s. s + value (f n)) (count_of_map f n)
+
 -- ---- the bits of all words, in one sum
+ones_in_places : (words : List ℕ) (n : ℕ) → ones_of words n ≡ total (λ i. value (bit_in words i)) (n * 64)
+unfolding ones_of word_ones
+ones_in_places words n =
+    sym (total-blocks (λ i. value (bit_in words i)) 64 n
+    ∙ total_same (λ k. total (λ j. value (bit_in words (k * 64 + j))) 64) (λ k. word_ones (get_or words k 0)) n
+    (λ k h. total_same (λ j. value (bit_in words (k * 64 + j))) (λ j. value (bit_of (get_or words k 0) j)) 64 (λ j l. ap value (bit_in_word words k j l))))
+
 common_by_bits : (first second : List ℕ) (n : ℕ) → common_ones first second n ≡ total (λ i. value (bit_in first i && bit_in second i)) (n * 64)
 unfolding common_ones word_common
 common_by_bits first second n =
@@ -68,7 +86,34 @@ phase_by_bits xa za xb zb n =
     (λ j. letter_phase (bit_of (get_or xa k 0) j) (bit_of (get_or za k 0) j) (bit_of (get_or xb k 0) j) (bit_of (get_or zb k 0) j)) 64
     (λ j l. simp (bit_in_word xa k j l, bit_in_word za k j l, bit_in_word xb k j l, bit_in_word zb k j l))))
 
+-- ---- the ones of one word more
+pub ones_of-none : (words : List ℕ) → ones_of words 0 ≡ 0
+unfolding ones_of total
+ones_of-none words = refl
+
+pub ones_of-more : (words : List ℕ) (n : ℕ) → ones_of words (n + 1) ≡ ones_of words n + word_ones (get_or words n 0)
+unfolding ones_of total
+ones_of-more words n = let e : n + 1 ≡ suc n = omega arith in ap (ones_of words) e
+
+pub ones_of-le : (words : List ℕ) (m n : ℕ) → m ≤ n → ones_of words m ≤ ones_of words n
+unfolding ones_of
+ones_of-le words m n le =
+    let e : m + (n - m) ≡ n = omega (arith, le) in
+    omega (arith, total-split (λ k. word_ones (get_or words k 0)) m (n - m), ap (ones_of words) e)
+
 -- ---- rows held by words
+pub count_of_row : (n : ℕ) (words : List ℕ) (row : List Bool) → HoldsRow n words → row_of n words ≡ row → ones_of words (length words) ≡ count_by (λ b. b) row
+unfolding row_of
+count_of_row n words row held e =
+    let blank : total (λ i. value (bit_in words i)) (length words * 64) ≡ total (λ i. value (bit_in words i)) n =
+    total_blank (λ i. value (bit_in words i)) n (length words * 64) (omega (arith, held.count)) (λ i h. ap value (held.blank i h)) in
+    ones_in_places words (length words) ∙ blank ∙ sym (count_of_map (bit_in words) n) ∙ ap (count_by (λ b. b)) e
+
+-- so the sum fits
+pub ones_fit : (n : ℕ) (words : List ℕ) (row : List Bool) → HoldsRow n words → row_of n words ≡ row → ones_of words (length words) < 2 ^ 64
+ones_fit n words row held e =
+    omega (arith, count_of_row n words row held e, count_by-le-length (λ b. b) row, row_long n words row e, held.fits)
+
 pub parity_of_rows : (n : ℕ) (first second : List ℕ) (p q : List Bool) → HoldsRow n first → row_of n first ≡ p → row_of n second ≡ q
     → eqb (common_ones first second (length first) % 2) 1 ≡ and_parity_of p q
 unfolding row_of

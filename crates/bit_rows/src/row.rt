@@ -1,7 +1,9 @@
-ghost use Rattle.std.specs.Prelude.{◌≡◌, ◌↔◌, ◌<◌, ◌≤◌, ◌⊎◌, ℕ, List, Bool, true, false, not, length, replicate, slice_index_or, slice_set, IfOk, IfSome, IfNone, IsTrue};
+ghost use Rattle.std.specs.Prelude.{◌≡◌, ◌↔◌, ◌<◌, ◌≤◌, ◌⊎◌, ◌+◌, ◌*◌, ℕ, List, Bool, true, false, not, length, replicate, count_by, slice_index_or, slice_set, IfOk, IfSome, IfNone, IsTrue};
+ghost use Rattle.bit_rows.specs.Lanes.{lane_bit};
 ghost use Rattle.bit_rows.specs.Rows.{AreZeroAt, xor_rows, and_parity_of, phase_of, first_one_of};
 
 use crate::bits::{bit_at_place, first_place_from, flip_bit, put_bit};
+use crate::count::count_ones;
 use crate::marks::{either, is_unmarked, mark, marks_of_sum};
 use crate::multiply::multiply_words;
 use crate::parity::has_odd_common_ones;
@@ -102,6 +104,24 @@ impl<A: Allocator + Copy> BitRow<A> {
             bit_at_place(first.words.as_slice(), i),
             bit_at_place(second.words.as_slice(), i),
         )
+    }
+
+    /// The bits at the 64 places from place 64·k on, a lane each. Those past the last place are 0.
+    #[inline(always)]
+    pub fn word(&self, k: usize) -> u64
+        requires { 64 * k < length self.now }
+        ensures { (j : ℕ)
+            → j < 64
+            → lane_bit j result ≡ slice_index_or self.now (64 * k + j) false }
+    {
+        self.words.as_slice()[k]
+    }
+
+    /// How many bits are set.
+    pub fn count_ones(&self) -> usize
+        ensures { result ≡ count_by (λ b. b) self.now }
+    {
+        count_ones(self.words.as_slice())
     }
 
     /// Puts a bit at a place.
