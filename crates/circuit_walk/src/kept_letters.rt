@@ -40,7 +40,8 @@ impl KeptLetters {
         }
     }
 
-    /// Whether letters are those that are kept. Where there are as many, all are compared, so that it is done several at a time.
+    /// Whether letters are those that are kept. Where there are as many, those that are the same
+    /// are counted, so that several are compared at once.
     pub fn are(&self, letters: Letters<'_>) -> bool
         ensures { result ≡ true → self.now ≡ Some (letters_in letters.entry) }
     {
@@ -49,12 +50,11 @@ impl KeptLetters {
         if letters.letter.is_some() || kept.is_empty() || others.len() != kept.len() {
             return false;
         }
-        let mut same = true;
+        let mut same = 0;
         for at in 0..kept.len() {
-            let is = kept[at].is(others[at]);
-            same = same && is;
+            same += kept[at].is(others[at]) as usize;
         }
-        same
+        same == kept.len()
     }
 
     /// Keeps the letters of a product, where there is room for them. Answers whether there is.

@@ -79,8 +79,8 @@ fn behind_star(targets: &[TargetWord]) -> &[TargetWord]
 }
 
 impl<'c> Letters<'c> {
-    /// The two letters at their qubits, where these are the factors of a product of just two, with no star between them,
-    /// as most errors of more than one letter are.
+    /// The two letters at their qubits, where these are the factors of a product of just two, with
+    /// no star between them, as most errors of more than one letter are.
     #[inline(always)]
     pub fn both(self) -> Option<(Term, Term)>
         requires { AreSmall self }
