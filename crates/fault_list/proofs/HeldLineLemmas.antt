@@ -1,11 +1,12 @@
 -- Lines that are held back, and those before them that were pushed.
-use Rattle.std.proofs.Common.{◌≡◌, ℕ, ◌+◌, List, [], ◌++◌, Option, sym, ap, ◌∙◌, append_assoc, append-nil, arith}
+use Rattle.std.proofs.Common.{◌≡◌, ℕ, ◌+◌, List, [], ◌++◌, Option, None, Some, refl, sym, ap, ◌∙◌, append_assoc, append-nil, arith}
 use Rattle.std.specs.List.{flat_map, range_with_len}
 use Rattle.std.proofs.lemmas.List.Concat.{flat_map-append}
 use Rattle.step_model.specs.Held.{Held}
 use Rattle.step_model.specs.Pushed.{Pushes}
 use Rattle.step_model.proofs.Pushing.{Pushes-nil, Pushes-trans}
-use Rattle.fault_list.specs.private.HeldLines.{PushesSome}
+use Rattle.fault_list.specs.private.HeldLines.{PushesSome, PutsHeld}
+use Rattle.fault_list.specs.private.PutTexts.{Puts}
 use Rattle.step_model.proofs.RangeLemmas.{range-append}
 
 -- the texts of the first numbers and of the next one
@@ -24,6 +25,12 @@ nothing_held {S} {taken} {failures} {s} {h} {before} = record { gone = []; pushe
 -- a text that is held too
 pub held_too : {S : Type 0} {taken : S → Option (List ℕ)} {failures : S → ℕ} {s : S} {h : Held} {before after bytes : List ℕ} → after ≡ before ++ bytes → PushesSome taken failures s s h h before after bytes
 held_too is = record { gone = []; pushes = Pushes-nil; rest = is }
+
+-- a text that was put and is held
+pub put_and_held : {S : Type 0} {taken : S → Option (List ℕ)} {failures : S → ℕ} {s : S} {h : Held} {most at : ℕ} {text old new : List ℕ} {answer : Option ℕ}
+    → Puts most at text old new answer → PutsHeld taken failures s s h h most at text old new answer
+put_and_held {answer = None} puts = record { within = tt; pushed = tt; kept = puts.kept; same_sink = λ none. refl; same_out = λ none. refl }
+put_and_held {answer = Some end} puts = record { within = puts.within; pushed = held_too puts.written; kept = puts.kept; same_sink = λ none. refl; same_out = λ none. refl }
 
 module _ {S : Type 0} {taken : S → Option (List ℕ)} {failures : S → ℕ} {s₀ s₁ : S} {h₀ h₁ : Held} where
   -- all that was held goes out
@@ -44,6 +51,10 @@ module _ {S : Type 0} {taken : S → Option (List ℕ)} {failures : S → ℕ} {
         ∙ (sym (append_assoc p.gone held (f n))
         ∙ (ap (λ l. l ++ f n) p.rest ∙ one_more f n)));
   }
+
+  -- all that is held then goes out too
+  pub gone_too : {before after bytes : List ℕ} → PushesSome taken failures s₀ s₁ h₀ h₁ before after bytes → Pushes taken failures s₁ s₂ h₁ h₂ after → PushesSome taken failures s₀ s₂ h₀ h₂ before [] bytes
+  gone_too {before} {after} {bytes} p q = record { gone = p.gone ++ after; pushes = Pushes-trans p.pushes q; rest = append-nil (p.gone ++ after) ∙ p.rest }
 
   -- what is held at the end goes out
   pub all_out : {held bytes : List ℕ} → PushesSome taken failures s₀ s₁ h₀ h₁ [] held bytes → Pushes taken failures s₁ s₂ h₁ h₂ held → Pushes taken failures s₀ s₂ h₀ h₂ bytes

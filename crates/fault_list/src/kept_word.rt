@@ -41,7 +41,22 @@ impl KeptWord {
         }
     }
 
-    /// Puts the word of some terms at `at`, and answers where it ends. It answers none where `put_letters` does.
+    /// The text of the word of some terms, where it is the one that is kept.
+    #[inline(always)]
+    pub(crate) fn kept(&self, terms: Letters<'_>) -> Option<&[u8]>
+        ensures within { IfSome result (λ text. length text.now ≤ WORD) }
+        ensures text { IfSome result (λ text. (qubits : ℕ)
+            → TermsFit qubits (letters_in terms.entry)
+            → text.now ≡ word_text (word_of_terms qubits (letters_in terms.entry))) }
+    {
+        if !self.letters.are(terms) {
+            return None;
+        }
+        Some(&self.text[..self.len])
+    }
+
+    /// Puts the word of some terms at `at`, keeps it where it is long, and answers where it ends.
+    /// It answers none where `put_letters` does.
     #[inline(always)]
     pub(crate) fn put(
         &mut self,
@@ -55,9 +70,6 @@ impl KeptWord {
         ensures { (qubits : ℕ) → TermsFit qubits (letters_in terms.entry)
             → Puts WORD at (word_text (word_of_terms qubits (letters_in terms.entry))) buffer.old buffer.new result }
     {
-        if self.letters.are(terms) {
-            return Some(put_text(buffer, at, &self.text[..self.len]));
-        }
         let end = put_letters(buffer, at, names, terms)?;
         if end - at > SHORT {
             self.keep(&buffer[at..end], terms);

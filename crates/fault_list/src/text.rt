@@ -127,7 +127,15 @@ fn write_line<'t, 'a, A: Allocator + Copy, W: Sink>(
         (take held desk.old.lines) (take result desk.new.lines)
         (fault_line program.now.listing fault.entry.number) }
 {
-    match put_line(&mut desk.lines, held, &mut desk.texts, program, fault) {
+    match put_line(
+        out,
+        sink,
+        &mut desk.lines,
+        held,
+        &mut desk.texts,
+        program,
+        fault,
+    ) {
         Some(end) if end <= LAST_LINE => end,
         Some(end) => {
             out.push(sink, &desk.lines[..end]);

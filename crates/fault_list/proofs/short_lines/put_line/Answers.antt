@@ -1,5 +1,5 @@
-use Rattle.std.proofs.Common.{◌≤◌, List, take, refl, ap, ◌∙◌, arith}
-use Rattle.std.specs.Prelude.{decimal}
+use Rattle.std.proofs.Common.{◌≤◌, List, ◌++◌, take, refl, sym, ap, ◌∙◌, append_assoc, arith}
+use Rattle.std.specs.Prelude.{codes, decimal}
 use Rattle.step_model.specs.Chances.{chance_at}
 use Rattle.step_model.specs.Listing.{effect_at}
 use Rattle.step_model.specs.declared.chances.ChanceText.{ChanceText}
@@ -16,11 +16,17 @@ returns-in_err-end-2-clause-kept g c =
     λ none. kept_before at c.in_ok-end.end _ c.put.new.buffer after (c.in_err-end-2.ensures.put.kept refl)
     ∙ before_kept at number c.put.new.buffer c.args.buffer.now (decimal c.args.fault.number) c.put-end.ensures.from (omega (arith, c.requires.room)) (first ∙ c.put-end.ensures.written)
 
-pub returns-clause-written : goal.returns-clause-written
-returns-clause-written g c =
+pub returns-clause-pushed : goal.returns-clause-pushed
+returns-clause-pushed g c =
     let program = c.args.program.now.listing in
     let number = c.args.fault.number in
     let before = take c.args.at c.args.buffer.now in
     let effect = effect_text program.qubits (effect_at program number) in
     let text = ap (λ (cs : List ChanceText). (chance_at cs c.args.fault.chance).text) c.requires.texts in
-    line_put before (decimal number) effect c.put-end.ensures.written c.in_ok-end.ensures.put.written c.in_ok-end-2.ensures.put.written c.put_byte.ensures.written (text ∙ c.requires.fault.text)
+    let word = c.in_ok-end-2.ensures.put.pushed in
+    let ended = ap (λ l. word.gone ++ l) c.put_byte.ensures.written ∙ sym (append_assoc word.gone _ (codes "\n")) in
+    record {
+      gone = word.gone;
+      pushes = word.pushes;
+      rest = line_put before (decimal number) effect c.put-end.ensures.written c.in_ok-end.ensures.put.written word.rest ended (text ∙ c.requires.fault.text);
+    }
