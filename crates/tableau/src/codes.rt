@@ -96,6 +96,7 @@ pub(crate) fn encode_letter<A: Allocator + Copy>(
 }
 
 /// The sign of the word of X or of Z, where it has only I and Z. None doesn't mean that the outcome is random.
+#[inline(always)]
 pub(crate) fn sign_seen<A: Allocator + Copy>(pair: &Pair<A>, letter: Letter) -> Option<bool>
     ensures { IfSome result (λ minus. (n : ℕ) → IsDiagonal (word_of n pair.now letter) minus) }
 {
