@@ -5,6 +5,7 @@ pub mod HalfLemmas
 pub mod KeptLemmas
 pub mod LengthLemmas
 pub mod LoneTerms
+mod MemberLists
 pub mod MultiplyLemmas
 mod PairLemmas
 pub mod SetLemmas

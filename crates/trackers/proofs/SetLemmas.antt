@@ -1,6 +1,6 @@
 -- Sets of targets as descending lists.
 use Rattle.std.proofs.Common.{◌≡◌, ℕ, zero, suc, ◌+◌, ◌-◌, ◌<◌, ◌≤◌, ◌==◌, nat_lt, Bool, true, false, not, List, [], ◌∷◌, ◌++◌, length, map, get_or, set, drop, take, inl, inr, Result, Ok, Err, OnOk, OnErr, refl, ap, ap₂, subst, sym, ◌∙◌, arith, append-nil}
-use Rattle.std.specs.Prelude.{◌⊎◌, filter, reverse, replicate, insert, remove, if◌then◌else◌}
+use Rattle.std.specs.Prelude.{◌⊎◌, All, filter, reverse, replicate, insert, remove, if◌then◌else◌}
 use Rattle.std.specs.List.{range_with_len, refill}
 use Rattle.std.proofs.Math.Nat.{suc_inj}
 use Rattle.std.proofs.lemmas.Bool.{eqb-true, ltb-true, ltb-false, lt-ltb, le-ltb, cases_eq, eq-eqb, ne_eqb}
@@ -162,10 +162,13 @@ pub descends_toggled : {V E : Type 0} (r : Result V E) (m t : ℕ) (old new : Li
 descends_toggled (Ok v) m t old new ok err low h = subst (DescendsBelow m) (sym (ok m h)) (DescendsBelow-xor_sets m (t ∷ []) old (low, tt) h)
 descends_toggled (Err e) m t old new ok err low h = subst (DescendsBelow m) (sym err) h
 
+pub each_below : (m : ℕ) (xs : List ℕ) → DescendsBelow m xs → All (λ t. t < m) xs
+each_below m [] h k d lt = absurd (omega (arith, lt))
+each_below m (x ∷ xs) h zero d lt = h.0
+each_below m (x ∷ xs) h (suc k) d lt = let low : get_or xs k d < x = each_below x xs h.1 k d (omega (arith, lt)) in let top : x < m = h.0 in omega (arith, low, top)
+
 get_below : (m : ℕ) (xs : List ℕ) (k : ℕ) → DescendsBelow m xs → k < length xs → get_or xs k 0 < m
-get_below m [] k h lt = absurd (omega (arith, lt))
-get_below m (x ∷ xs) zero h lt = h.0
-get_below m (x ∷ xs) (suc k) h lt = let low : get_or xs k 0 < x = get_below x xs k h.1 (omega (arith, lt)) in let top : x < m = h.0 in omega (arith, low, top)
+get_below m xs k h lt = each_below m xs h k 0 lt
 
 xor_front : (t x : ℕ) (xs : List ℕ) → t < x → xor_sets (t ∷ []) (x ∷ xs) ≡ x ∷ xor_sets (t ∷ []) xs
 xor_front t x xs h =

@@ -1,3 +1,4 @@
+pub mod Held
 pub mod PairImages
 pub mod Sets
 pub mod Transposed

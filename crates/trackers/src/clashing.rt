@@ -15,7 +15,7 @@ const FEW_LETTERS: usize = 8;
 
 /// Makes a set that of the targets whose words anticommute with the product of these letters at qubits. Those of many
 /// letters are added up in halves, so a target is gone over as often as these can be halved. A row of bits takes as long for few
-/// targets as for many: it is added up letter by letter.
+/// targets as for many: it is added up letter by letter. (A spare set is a list wherever sets may be lists.)
 #[inline(never)]
 pub(crate) fn clashing<S: TargetSet>(
     columns: &[Column<S>],
@@ -35,7 +35,7 @@ pub(crate) fn clashing<S: TargetSet>(
     ensures len { length (S.bits set.new) ≡ length (S.bits set.old) }
     ensures spare { length (S.bits spare.new) ≡ length (S.bits spare.old) }
 {
-    if terms.len() <= FEW_LETTERS || set.kept().is_none() {
+    if terms.len() <= FEW_LETTERS || spare.kept().is_none() {
         return clashing_in_turn(columns, terms, set, spare);
     }
     let (front, back) = terms.split_at(terms.len() / 2);

@@ -1,5 +1,6 @@
 //! Unsigned Pauli words of targets, taken back over the steps of a program: what a tracker is asked (`Tracker`), and two
-//! trackers, whose words are kept by qubit, as rows of bits (`DenseWords`) or as lists of targets (`QubitSets`).
+//! trackers, whose words are kept by qubit, as rows of bits (`DenseWords`) or as lists of targets while these are few
+//! (`QubitSets`).
 //! (Sensitivities taken back over a circuit: Gidney, Quantum 5, 497 (2021).)
 #![tactic(auto)]
 
@@ -7,8 +8,11 @@ mod clashing;
 mod column;
 mod columns;
 mod descending;
+mod held;
 mod images;
+mod list_set;
 mod pairs;
+mod row_set;
 mod sparse_set;
 mod target_set;
 mod tracker;

@@ -1,41 +1,33 @@
-//! A set of targets as the list of those in it.
-ghost use Rattle.std.specs.Prelude.{◌≡◌, false, length, replicate, OnOk};
-ghost use Rattle.bit_rows.specs.Rows.{xor_rows};
+//! A set of targets that takes little memory while few are in it, and no more than a row of bits once many are.
+ghost use Rattle.std.specs.Prelude.{◌≡◌, false, replicate};
 
-use crate::descending::{
-    FEW, add_many, empty, list_ascending, put_ascending, put_few, sum_few, sum_few_of_four,
-    toggle_in,
-};
+use crate::descending::FEW;
+use crate::held::Held;
+use crate::list_set::ListSet;
 use crate::target_set::TargetSet;
-use smallvec::SmallVec;
 use std::alloc::{AllocError, Allocator};
 use std::marker::Model;
 
-/// A set of targets as the list of those in it, the greatest first: where targets come from the greatest down, each is
-/// appended.
+/// A set of targets as the list of those in it, the greatest first, while these are few: where targets come from the greatest
+/// down, each is appended. Once they are many it is a row of bits.
 pub struct SparseSet<'a, A: Allocator + Copy> {
-    targets: usize,
-    // On a borrowed allocator, since the size of a SmallVec has to be known.
-    items: SmallVec<u32, 4, &'a A>,
+    held: Held<'a, A>,
 }
 
 impl<'a, A: Allocator + Copy> Model for SparseSet<'a, A> {
     ghost use Rattle.std.specs.Prelude.{List, Bool};
-    ghost use Rattle.trackers.specs.private.Sets.{DescendsBelow};
-    ghost use Rattle.step_model.specs.TargetSets.{row_of_set};
+    ghost use Rattle.trackers.specs.private.Held.{bits_of};
 
     ghost Value = { List Bool };
 
-    ghost view = { λ s. row_of_set s.targets s.items.items };
-
-    ghost invariant = { λ s. DescendsBelow s.targets s.items.items };
+    ghost view = { λ s. bits_of s.held };
 }
 
 // Written out, so that it is a call in the proof of each function that owns one.
 impl<A: Allocator + Copy> Drop for SparseSet<'_, A> {
     fn drop(self) {
-        let SparseSet { targets: _, items } = self;
-        drop(items);
+        let SparseSet { held } = self;
+        drop(held);
     }
 }
 
@@ -45,25 +37,7 @@ impl<'a, A: Allocator + Copy> SparseSet<'a, A> {
         ensures { result ≡ replicate targets false }
     {
         SparseSet {
-            targets,
-            items: SmallVec::new(alloc),
-        }
-    }
-
-    // Toggles each target of another set, which has some.
-    #[inline(never)]
-    fn add_some(&mut self, other: &Self, spare: &mut Self) -> Result<(), AllocError>
-        requires other { length self.old ≡ length other.now }
-        requires spare { length spare.old ≡ length self.old }
-        ensures ok { OnOk result (self.new ≡ xor_rows self.old other.now) }
-        ensures len { length self.new ≡ length self.old }
-        ensures spare { length spare.new ≡ length spare.old }
-    {
-        let more = other.items.as_slice();
-        let mut sum = [0; FEW];
-        match sum_few(self.items.as_slice(), more, &mut sum) {
-            Some(len) => put_few(&mut self.items, &sum, len),
-            None => add_many(&mut self.items, more, &mut spare.items),
+            held: Held::List(ListSet::none(alloc, targets)),
         }
     }
 }
@@ -72,44 +46,84 @@ impl<'a, A: Allocator + Copy> TargetSet for SparseSet<'a, A> {
     ghost bits = { λ set. set };
 
     fn copy(&self) -> Result<Self, AllocError> {
-        Ok(SparseSet {
-            targets: self.targets,
-            items: SmallVec::from_slice(*self.items.allocator(), self.items.as_slice())?,
-        })
+        match &self.held {
+            Held::List(list) => Ok(SparseSet {
+                held: Held::List(list.copy()?),
+            }),
+            Held::Row(row) => Ok(SparseSet {
+                held: Held::Row(row.copy()?),
+            }),
+        }
     }
 
+    // The memory of a row is given back: whoever clears it mostly puts few in.
     fn clear(&mut self) {
-        empty(&mut self.items);
+        match &mut self.held {
+            Held::List(list) => list.clear(),
+            Held::Row(row) => {
+                let list = row.emptied();
+                self.held = Held::List(list);
+            }
+        }
     }
 
+    #[inline(always)]
     fn toggle(&mut self, target: u32) -> Result<(), AllocError> {
-        toggle_in(&mut self.items, target)
+        if let Held::List(list) = &mut self.held {
+            // By one target more it doesn't get long.
+            if list.is_inline() {
+                return list.toggle(target);
+            }
+        }
+        self.held.toggle(target)
     }
 
     #[inline(always)]
     fn add(&mut self, other: &Self, spare: &mut Self) -> Result<(), AllocError> {
-        if other.items.as_slice().is_empty() {
-            Ok(())
-        } else {
-            self.add_some(other, spare)
+        match &other.held {
+            Held::List(list) => {
+                if list.is_empty() {
+                    Ok(())
+                } else {
+                    self.held.add_list(list, &mut spare.held)
+                }
+            }
+            Held::Row(row) => self.held.add_row(row),
         }
     }
 
     fn list<B: Allocator + Copy>(&self, into: &mut Vec<u32, B>) -> Result<(), AllocError> {
-        list_ascending(self.items.as_slice(), into)
+        match &self.held {
+            Held::List(list) => list.list(into),
+            Held::Row(row) => row.list(into),
+        }
     }
 
     fn put_ascending(&mut self, targets: &[u32]) -> Result<bool, AllocError> {
-        put_ascending(&mut self.items, targets)
+        self.clear();
+        match &mut self.held {
+            Held::List(list) => {
+                let put = list.put_ascending(targets)?;
+                self.held.settle()?;
+                Ok(put)
+            }
+            Held::Row(_) => Ok(false),
+        }
     }
 
     #[inline(always)]
     fn kept(&self) -> Option<&[u32]> {
-        Some(self.items.as_slice())
+        match &self.held {
+            Held::List(list) => list.kept(),
+            Held::Row(_) => None,
+        }
     }
 
     fn sum_few(&self, other: &Self, sum: &mut [u32; FEW]) -> Option<usize> {
-        sum_few(self.items.as_slice(), other.items.as_slice(), sum)
+        match (self.held.as_list(), other.held.as_list()) {
+            (Some(list), Some(other)) => list.sum_few(other, sum),
+            _ => None,
+        }
     }
 
     fn sum_few_of_four(
@@ -119,12 +133,16 @@ impl<'a, A: Allocator + Copy> TargetSet for SparseSet<'a, A> {
         fourth: &Self,
         sum: &mut [u32; FEW],
     ) -> Option<usize> {
-        sum_few_of_four(
-            self.items.as_slice(),
-            second.items.as_slice(),
-            third.items.as_slice(),
-            fourth.items.as_slice(),
-            sum,
-        )
+        match (
+            self.held.as_list(),
+            second.held.as_list(),
+            third.held.as_list(),
+            fourth.held.as_list(),
+        ) {
+            (Some(first), Some(second), Some(third), Some(fourth)) => {
+                first.sum_few_of_four(second, third, fourth, sum)
+            }
+            _ => None,
+        }
     }
 }

@@ -130,10 +130,10 @@ impl<A: Allocator + Copy> TargetSet for BitRow<A> {
 
     fn list<B: Allocator + Copy>(&self, into: &mut Vec<u32, B>) -> Result<(), AllocError> {
         into.clear();
-        for t in 0..self.len() {
-            if self.get(t) {
-                into.push(t as u32)?;
-            }
+        let mut start = 0;
+        while let Some(t) = BitRow::first_one_from(self, self, start) {
+            into.push(t as u32)?;
+            start = t + 1;
         }
         Ok(())
     }
@@ -240,8 +240,8 @@ fn toggle_all<S: TargetSet>(
     set.add(made, spare)
 }
 
-// Toggles each of these targets, from the last on: where they ascend and the set is empty, each is appended.
-fn toggle_down<S: TargetSet>(set: &mut S, targets: &[u32]) -> Result<(), AllocError>
+/// Toggles each of these targets, from the last on: where they ascend and the set is empty, each is appended.
+pub(crate) fn toggle_down<S: TargetSet>(set: &mut S, targets: &[u32]) -> Result<(), AllocError>
     requires { All (λ t. t < length (S.bits set.old)) targets.now }
     ensures ok { OnOk result
         (S.bits set.new

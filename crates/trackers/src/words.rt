@@ -34,8 +34,8 @@ pub struct Words<S: TargetSet, A: Allocator + Copy> {
 /// Words kept by qubit, whose sets are rows of bits.
 pub type DenseWords<A> = Words<BitRow<A>, A>;
 
-/// Words kept by qubit, whose sets are lists of the targets in them, so that sets of few among many targets take little
-/// memory.
+/// Words kept by qubit, whose sets are lists of the targets in them while these are few, so that sets of few among many targets
+/// take little memory.
 pub type QubitSets<'a, A> = Words<SparseSet<'a, A>, A>;
 
 impl<S: TargetSet, A: Allocator + Copy> Model for Words<S, A> {

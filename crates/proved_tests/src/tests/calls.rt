@@ -11,6 +11,7 @@ mod faults;
 mod gates;
 mod lines;
 mod lists;
+mod many_targets;
 mod numbers;
 mod read_models;
 mod reader_ends;

@@ -1,0 +1,53 @@
+//! Sets of some of two thousand targets: a list while they are few, a row of bits once they are many, and a list again.
+ghost use Rattle.std.specs.Prelude.{◌≡◌, ◌≤◌, length};
+
+use std::alloc::{AllocError, Global};
+use trackers::{SparseSet, TargetSet};
+
+/// Toggles targets one after another, ascending: for a list no order is worse.
+fn toggle_span(set: &mut SparseSet<'_, Global>, from: u32, to: u32) -> Result<(), AllocError>
+    requires { to ≤ length set.old }
+    ensures { length set.new ≡ length set.old }
+{
+    for target in from..to {
+        set.toggle(target)?;
+    }
+    Ok(())
+}
+
+/// Whether 62 targets are a list, which takes no more memory than a row, and whether more are a row, and 3 of them a list.
+fn changes(alloc: Global) -> Result<bool, AllocError> {
+    let mut set = SparseSet::none(&alloc, 2000);
+    toggle_span(&mut set, 0, 62)?;
+    let few = set.kept().is_some();
+    toggle_span(&mut set, 62, 100)?;
+    let many = set.kept().is_none();
+    let mut listed = Vec::new(alloc);
+    set.list(&mut listed)?;
+    toggle_span(&mut set, 3, 100)?;
+    let again = set.kept() == Some([2, 1, 0].as_slice());
+    Ok(few && many && listed.len() == 100 && listed.last() == Some(&99) && again)
+}
+
+/// Whether a list plus a row is a row, the row plus that is the list again, and the row plus the list is the first row.
+fn adds_up(alloc: Global) -> Result<bool, AllocError> {
+    let mut set = SparseSet::none(&alloc, 2000);
+    let mut other = SparseSet::none(&alloc, 2000);
+    let mut spare = SparseSet::none(&alloc, 2000);
+    toggle_span(&mut set, 99, 102)?;
+    toggle_span(&mut other, 0, 100)?;
+    set.add(&other, &mut spare)?;
+    let many = set.kept().is_none();
+    other.add(&set, &mut spare)?;
+    let few = other.kept() == Some([101, 100, 99].as_slice());
+    set.add(&other, &mut spare)?;
+    let mut listed = Vec::new(alloc);
+    set.list(&mut listed)?;
+    Ok(many && few && listed.len() == 100 && listed.last() == Some(&99))
+}
+
+#[test]
+fn lists_and_rows(rt: HostRuntime) {
+    assert!(rt; matches!(changes(rt.alloc()), Ok(true)));
+    assert!(rt; matches!(adds_up(rt.alloc()), Ok(true)));
+}
