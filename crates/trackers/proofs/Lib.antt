@@ -1,4 +1,5 @@
 pub mod ColumnLemmas
+mod CountLemmas
 pub mod ExchangeLemmas
 pub mod GateLemmas
 pub mod HalfLemmas
@@ -8,6 +9,7 @@ pub mod LoneTerms
 mod MemberLists
 pub mod MultiplyLemmas
 mod PairLemmas
+mod RowLists
 pub mod SetLemmas
 mod TimesAll
 mod TimesEach

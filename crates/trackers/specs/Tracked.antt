@@ -1,13 +1,13 @@
 -- What a tracker keeps: one unsigned word a target, on some number of qubits; and what each call makes of the words.
 -- (Sensitivities taken back over a circuit: Gidney, Quantum 5, 497 (2021). How they are kept here is this project's
 -- own.)
-use Rattle.std.specs.Prelude.{◌≡◌, ◌<◌, ◌*◌, ◌==◌, ℕ, All, Bool, false, List, [], ◌∷◌, map, filter, length, replicate, slice_index_or, slice_set}
+use Rattle.std.specs.Prelude.{◌≡◌, ◌<◌, ◌+◌, ◌*◌, ◌==◌, ℕ, All, Bool, false, List, [], ◌∷◌, map, filter, count_by, length, replicate, slice_index_or, slice_set}
 use Rattle.std.specs.List.{range_with_len, list_any}
 use Rattle.gate_table.specs.declared.gate.Gate.{Gate}
 use Rattle.pauli_word.specs.declared.letter.Letter.{Letter}
 use Rattle.pauli_word.specs.declared.letter.Letter.TheVariants.{I}
-use Rattle.pauli_word.specs.Bits.{letter_of}
-use Rattle.pauli_word.specs.Words.{signed, anticommute, no_letters, lone_letter}
+use Rattle.pauli_word.specs.Bits.{letter_of, x_bit, z_bit}
+use Rattle.pauli_word.specs.Words.{signed, anticommute, letter_at, no_letters, lone_letter}
 use Rattle.step_model.specs.declared.step.Term.{Term}
 use Rattle.gate_table.specs.WordImages.{preimage_at, preimage_at_two}
 use Rattle.step_model.specs.Listing.{word_of_terms}
@@ -56,6 +56,10 @@ added targets letter q t =
 abbrev pub anticommuting : List Term → Tracked → List ℕ
 anticommuting terms t =
     filter (λ k. anticommute (slice_index_or t.words k []) (word_of_terms t.qubits terms)) (range_with_len 0 (length t.words))
+
+-- how many letters the words have at a qubit, where a Y is two: those with an X in them, and those with a Z
+abbrev pub letters_at : ℕ → Tracked → ℕ
+letters_at q t = count_by (λ word. x_bit (letter_at word q)) t.words + count_by (λ word. z_bit (letter_at word q)) t.words
 
 -- the word of a target, from two lists of targets a qubit: its letter has an X in it where the first lists the target,
 -- and a Z where the second does

@@ -1,4 +1,4 @@
-ghost use Rattle.std.specs.Prelude.{◌≡◌, ◌<◌, ◌≤◌, ◌^◌, ◌++◌, map, length, reverse, take, true, All, IfOk, IfSome, OnOk};
+ghost use Rattle.std.specs.Prelude.{◌≡◌, ◌<◌, ◌≤◌, ◌+◌, ◌^◌, ◌++◌, map, count_by, length, reverse, take, true, All, IfOk, IfSome, OnOk};
 ghost use Rattle.bit_rows.specs.Rows.{xor_rows};
 ghost use Rattle.pauli_word.specs.Bits.{x_bit, z_bit, letters_of};
 ghost use Rattle.pauli_word.specs.declared.letter.Letter.TheVariants.{I, X, Y, Z};
@@ -261,6 +261,15 @@ impl<S: TargetSet> Column<S> {
         } else {
             None
         }
+    }
+
+    /// How many letters there are, a Y being two.
+    #[inline(always)]
+    pub(crate) fn letter_count(&self) -> usize
+        requires { length self.now ≤ 2 ^ 32 }
+        ensures { result ≡ count_by x_bit self.now + count_by z_bit self.now }
+    {
+        self.x.count() + self.z.count()
     }
 
     /// Puts the targets for which just one of their letters in two columns clashes with Y at the start of `sum`, from the

@@ -12,6 +12,7 @@ mod held;
 mod images;
 mod list_set;
 mod pairs;
+mod row_list;
 mod row_set;
 mod sparse_set;
 mod target_set;

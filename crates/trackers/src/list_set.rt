@@ -87,7 +87,13 @@ impl<'a, A: Allocator + Copy> ListSet<'a, A> {
     /// Whether it takes more memory than a row of bits, and isn't short.
     #[inline(always)]
     pub(crate) fn is_long(&self) -> bool {
-        self.len() > FEW && self.len() > self.targets / 32
+        self.would_be_long(self.len())
+    }
+
+    /// The same if it had so many targets.
+    #[inline(always)]
+    pub(crate) fn would_be_long(&self, len: usize) -> bool {
+        len > FEW && len > self.targets / 32
     }
 
     /// Toggles each target in it in a row.
@@ -175,6 +181,11 @@ impl<'a, A: Allocator + Copy> TargetSet for ListSet<'a, A> {
     #[inline(always)]
     fn kept(&self) -> Option<&[u32]> {
         Some(self.items.as_slice())
+    }
+
+    #[inline(always)]
+    fn count(&self) -> usize {
+        self.items.len()
     }
 
     fn sum_few(&self, other: &Self, sum: &mut [u32; FEW]) -> Option<usize> {

@@ -1,10 +1,10 @@
 //! A set of targets as a row of bits, of which it is known at least how many are set.
-ghost use Rattle.std.specs.Prelude.{◌≡◌, ◌<◌, ◌≤◌, ◌^◌, true, false, not, length, replicate, IfOk, OnOk, slice_index_or, slice_set};
+ghost use Rattle.std.specs.Prelude.{◌≡◌, ◌<◌, ◌≤◌, ◌^◌, true, false, not, count_by, length, replicate, All, IfOk, OnOk, slice_index_or, slice_set};
 ghost use Rattle.bit_rows.specs.Rows.{xor_rows};
-ghost use Rattle.step_model.specs.TargetSets.{members};
+ghost use Rattle.step_model.specs.TargetSets.{members, row_of_set};
 
 use crate::list_set::ListSet;
-use crate::target_set::{TargetSet, make_set};
+use crate::target_set::{TargetSet, make_set, toggle_down};
 use bit_rows::BitRow;
 use std::alloc::{AllocError, Allocator};
 use std::marker::Model;
@@ -49,6 +49,21 @@ impl<'a, A: Allocator + Copy> RowSet<'a, A> {
             alloc,
             row,
             least: list.len(),
+        })
+    }
+
+    /// The set of the targets that are listed an odd number of times, of as many targets as an empty list may have.
+    pub(crate) fn of_targets(none: &ListSet<'a, A>, targets: &[u32]) -> Result<Self, AllocError>
+        requires { All (λ t. t < length none.now) targets.now }
+        ensures { IfOk result (λ set. set ≡ row_of_set (length none.now) targets.now) }
+    {
+        let alloc = none.allocator();
+        let mut row = BitRow::zeros(*alloc, none.targets())?;
+        toggle_down(&mut row, targets)?;
+        Ok(RowSet {
+            alloc,
+            row,
+            least: 0,
         })
     }
 
@@ -126,6 +141,13 @@ impl<'a, A: Allocator + Copy> RowSet<'a, A> {
         self.row.list(into)
     }
 
+    /// How many targets are in it.
+    pub(crate) fn count(&self) -> usize
+        ensures { result ≡ count_by (λ b. b) self.now }
+    {
+        self.row.count_ones()
+    }
+
     /// Whether it may have so few targets that a list takes less time to add.
     #[inline(always)]
     pub(crate) fn may_be_few(&self) -> bool {
@@ -158,17 +180,13 @@ fn few_among(targets: usize) -> usize
 }
 
 // How many bits of a row are set, or more than `most` where more are.
-fn count_up_to<A: Allocator + Copy>(row: &BitRow<A>, most: usize) -> usize
-    requires { length row.now ≤ 2 ^ 32 }
-{
-    let mut count = 0;
-    let mut start = 0;
-    while let Some(place) = BitRow::first_one_from(row, row, start) {
+fn count_up_to<A: Allocator + Copy>(row: &BitRow<A>, most: usize) -> usize {
+    let mut count: usize = 0;
+    for k in 0..row.len().div_ceil(64) {
+        count = count.saturating_add(row.word(k).count_ones() as usize);
         if count > most {
             return count;
         }
-        count += 1;
-        start = place + 1;
     }
     count
 }

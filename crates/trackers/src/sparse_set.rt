@@ -4,6 +4,7 @@ ghost use Rattle.std.specs.Prelude.{◌≡◌, false, replicate};
 use crate::descending::FEW;
 use crate::held::Held;
 use crate::list_set::ListSet;
+use crate::row_set::RowSet;
 use crate::target_set::TargetSet;
 use std::alloc::{AllocError, Allocator};
 use std::marker::Model;
@@ -103,9 +104,12 @@ impl<'a, A: Allocator + Copy> TargetSet for SparseSet<'a, A> {
         self.clear();
         match &mut self.held {
             Held::List(list) => {
-                let put = list.put_ascending(targets)?;
-                self.held.settle()?;
-                Ok(put)
+                if list.would_be_long(targets.len()) {
+                    let row = RowSet::of_targets(list, targets)?;
+                    self.held = Held::Row(row);
+                    return Ok(true);
+                }
+                list.put_ascending(targets)
             }
             Held::Row(_) => Ok(false),
         }
@@ -116,6 +120,14 @@ impl<'a, A: Allocator + Copy> TargetSet for SparseSet<'a, A> {
         match &self.held {
             Held::List(list) => list.kept(),
             Held::Row(_) => None,
+        }
+    }
+
+    #[inline(always)]
+    fn count(&self) -> usize {
+        match &self.held {
+            Held::List(list) => list.count(),
+            Held::Row(row) => row.count(),
         }
     }
 

@@ -1,10 +1,11 @@
 //! Sets of targets, in which tracked words are kept.
-ghost use Rattle.std.specs.Prelude.{◌≡◌, ◌<◌, ◌≤◌, ◌^◌, true, false, not, length, replicate, reverse, take, All, IfOk, IfSome, OnOk, List, Bool, slice_index_or, slice_set};
+ghost use Rattle.std.specs.Prelude.{◌≡◌, ◌<◌, ◌≤◌, ◌^◌, true, false, not, count_by, length, replicate, reverse, take, All, IfOk, IfSome, OnOk, List, Bool, slice_index_or, slice_set};
 ghost use Rattle.bit_rows.specs.Rows.{xor_rows};
 ghost use Rattle.step_model.specs.TargetSets.{members, row_of_set};
 ghost use Rattle.trackers.specs.private.Transposed.{xor_where, AreAsLong};
 
 use crate::descending::FEW;
+use crate::row_list::list_row;
 use bit_rows::BitRow;
 use std::alloc::{AllocError, Allocator};
 
@@ -60,6 +61,10 @@ pub trait TargetSet: Drop {
     fn kept(&self) -> Option<&[u32]>
         ensures { IfSome result (λ list. reverse list.now ≡ members (bits self.now)) };
 
+    /// How many targets are in the set.
+    fn count(&self) -> usize
+        ensures { result ≡ count_by (λ b. b) (bits self.now) };
+
     /// Puts the targets that are in just one of two sets at the start of `sum`, from the greatest down, and answers how many
     /// these are, where it does: a set need not. It is for sets of few targets.
     fn sum_few(&self, other: &Self, sum: &mut [u32; FEW]) -> Option<usize>
@@ -114,6 +119,10 @@ impl<A: Allocator + Copy> TargetSet for BitRow<A> {
         None
     }
 
+    fn count(&self) -> usize {
+        self.count_ones()
+    }
+
     fn sum_few(&self, _other: &Self, _sum: &mut [u32; FEW]) -> Option<usize> {
         None
     }
@@ -129,13 +138,7 @@ impl<A: Allocator + Copy> TargetSet for BitRow<A> {
     }
 
     fn list<B: Allocator + Copy>(&self, into: &mut Vec<u32, B>) -> Result<(), AllocError> {
-        into.clear();
-        let mut start = 0;
-        while let Some(t) = BitRow::first_one_from(self, self, start) {
-            into.push(t as u32)?;
-            start = t + 1;
-        }
-        Ok(())
+        list_row(self, into)
     }
 }
 

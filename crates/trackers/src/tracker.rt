@@ -1,7 +1,7 @@
 ghost use Rattle.std.specs.Prelude.{◌≡◌, ◌≢◌, ◌<◌, [], length, reverse, All, IfOk, IfSome, OnErr, OnOk, ◌≤◌, take};
 ghost use Rattle.std.specs.List.Sorted.{IsStrictlyIncreasing};
 ghost use Rattle.gate_table.specs.Images.{arity_of};
-ghost use Rattle.trackers.specs.Tracked.{Tracked, each_word, undone_one, undone_two, with_I_at, added, anticommuting, Fit, restored};
+ghost use Rattle.trackers.specs.Tracked.{Tracked, each_word, undone_one, undone_two, with_I_at, added, anticommuting, letters_at, Fit, restored};
 
 use crate::descending::FEW;
 use flat_lists::FlatLists;
@@ -78,6 +78,11 @@ pub trait Tracker: Sized {
         requires { All (λ term. term.qubit < (tracked self.now).qubits) terms.now }
         ensures { IfSome result (λ hit. reverse hit.now
             ≡ anticommuting terms.now (tracked self.now)) };
+
+    /// How many letters the words have at a qubit, a Y being two.
+    fn letters_at(&self, q: usize) -> usize
+        requires { q < (tracked self.now).qubits }
+        ensures { result ≡ letters_at q (tracked self.now) };
 
     /// Puts the targets whose words anticommute with the product of these letters at qubits at the start of `hit`, the
     /// greatest first, and answers how many these are, where it does: a tracker need not. It is for products of two letters

@@ -275,6 +275,10 @@ impl<S: TargetSet, A: Allocator + Copy> Tracker for Words<S, A> {
         None
     }
 
+    fn letters_at(&self, q: usize) -> usize {
+        self.columns[q].letter_count()
+    }
+
     fn few_hit(&self, terms: &[Term], hit: &mut [u32; FEW]) -> Option<usize> {
         match terms {
             [first, second] => sum_both(self.columns.as_slice(), first, second, hit),
