@@ -13,8 +13,7 @@ use trackers::{FEW, Tracker};
 const MOST_HELD: usize = 1 << 20;
 
 /// A tracker that answers an error once its words have too many letters, or too many were gone over, and notes that it did: for who
-/// has another way where the words of targets are long. An error without the note is want of memory. It counts letters by the lists
-/// that its tracker keeps.
+/// has another way where the words of targets are long. An error without the note is want of memory.
 #[derive(Drop)]
 pub(crate) struct Limited<'n, T> {
     tracker: T,
@@ -33,32 +32,6 @@ impl<'n, T: Tracker> Limited<'n, T> {
             held: 0,
             left: most,
             is_reached,
-        }
-    }
-
-    /// How many letters the words have at a qubit, a Y being two.
-    fn letters(&self, q: usize) -> usize
-        requires { q < (T.tracked self.now.tracker).qubits }
-    {
-        match u32::try_from(q) {
-            Ok(qubit) => {
-                let x = hit_count(
-                    &self.tracker,
-                    Term {
-                        qubit,
-                        letter: Letter::Z,
-                    },
-                );
-                let z = hit_count(
-                    &self.tracker,
-                    Term {
-                        qubit,
-                        letter: Letter::X,
-                    },
-                );
-                x.saturating_add(z)
-            }
-            Err(_) => 0,
         }
     }
 
@@ -98,13 +71,6 @@ impl<'n, T: Tracker> Limited<'n, T> {
     }
 }
 
-/// How many targets a letter hits, where they are kept as a list.
-fn hit_count<T: Tracker>(tracker: &T, term: Term) -> usize
-    requires { term.qubit < (T.tracked tracker.now).qubits }
-{
-    tracker.kept_hit(&[term]).map_or(0, |hit| hit.len())
-}
-
 /// How many letters words have that are kept as lists.
 fn letter_count<A: Allocator + Copy>(lists: &FlatLists<u32, A>) -> usize {
     let mut count: usize = 0;
@@ -131,28 +97,34 @@ impl<'n, T: Tracker> Tracker for Limited<'n, T> {
     }
 
     fn undo1(&mut self, gate: Gate, q: usize) -> Result<(), AllocError> {
-        let before = self.letters(q);
+        let before = self.tracker.letters_at(q);
         self.tracker.undo1(gate, q)?;
-        let after = self.letters(q);
+        let after = self.tracker.letters_at(q);
         self.count_replaced(before, after)
     }
 
     fn undo2(&mut self, gate: Gate, a: usize, b: usize) -> Result<(), AllocError> {
-        let before = self.letters(a).saturating_add(self.letters(b));
+        let before = self
+            .tracker
+            .letters_at(a)
+            .saturating_add(self.tracker.letters_at(b));
         self.tracker.undo2(gate, a, b)?;
-        let after = self.letters(a).saturating_add(self.letters(b));
+        let after = self
+            .tracker
+            .letters_at(a)
+            .saturating_add(self.tracker.letters_at(b));
         self.count_replaced(before, after)
     }
 
     fn add(&mut self, targets: &[u32], letter: Letter, q: usize) -> Result<(), AllocError> {
-        let before = self.letters(q);
+        let before = self.tracker.letters_at(q);
         self.tracker.add(targets, letter, q)?;
-        let after = self.letters(q);
+        let after = self.tracker.letters_at(q);
         self.count_replaced(before, after)
     }
 
     fn clear(&mut self, q: usize) {
-        self.held = self.held.saturating_sub(self.letters(q));
+        self.held = self.held.saturating_sub(self.tracker.letters_at(q));
         self.tracker.clear(q);
     }
 
@@ -171,6 +143,10 @@ impl<'n, T: Tracker> Tracker for Limited<'n, T> {
 
     fn kept_hit(&self, terms: &[Term]) -> Option<&[u32]> {
         self.tracker.kept_hit(terms)
+    }
+
+    fn letters_at(&self, q: usize) -> usize {
+        self.tracker.letters_at(q)
     }
 
     fn few_hit(&self, terms: &[Term], hit: &mut [u32; FEW]) -> Option<usize> {
