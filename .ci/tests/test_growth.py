@@ -89,6 +89,13 @@ class Time(ProgramTest):
         short, long = least_seconds(*((["analyze"], text) for text in texts))
         self.assertLess(long, 4 * short)
 
+    def test_gates_of_few_qubits_among_many(self):
+        """What a gate costs is what its qubits' words have, and not how many qubits there are."""
+        gates = "REPEAT 200000 {\n    S 0 1 2 3 4 5 6 7 8 9\n}\n"
+        among_few, among_many = (f"{gates}M {qubits - 1}\n" for qubits in (128, 4096))
+        few, many = least_seconds((["run"], among_few), (["run"], among_many))
+        self.assertLess(5 * many, 12 * few)
+
     def test_whether_something_is_random_is_asked_in_the_time_of_a_run(self):
         """Gates that each merge words of 250,000 detectors: these aren't taken back over all of them before a shot is drawn."""
         circuit = "H 0\nCX 0 1\n" + "CX 1 2\n" * 10_000 + "M 2\nREPEAT 250000 {\n    DETECTOR rec[-1]\n}\n"
