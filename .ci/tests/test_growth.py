@@ -1,5 +1,5 @@
-"""How what a text costs grows with it: the processor's time by ratios, memory by limits that the system sets, and ways to memory
-by a simulated cache.
+"""How what a text costs grows with it: the processor's time by ratios, memory by limits that the system sets, and instructions and
+ways to memory by a simulated processor.
 
 No clause sees a program that does more than it need. So each test compares a text with one that is a part of it, or with
 another way to the same answer. The bound on the ratio of their times stands between that of the program and that of one which
@@ -89,13 +89,6 @@ class Time(ProgramTest):
         short, long = least_seconds(*((["analyze"], text) for text in texts))
         self.assertLess(long, 4 * short)
 
-    def test_gates_of_few_qubits_among_many(self):
-        """What a gate costs is what its qubits' words have, and not how many qubits there are."""
-        gates = "REPEAT 200000 {\n    S 0 1 2 3 4 5 6 7 8 9\n}\n"
-        among_few, among_many = (f"{gates}M {qubits - 1}\n" for qubits in (128, 4096))
-        few, many = least_seconds((["run"], among_few), (["run"], among_many))
-        self.assertLess(5 * many, 12 * few)
-
     def test_whether_something_is_random_is_asked_in_the_time_of_a_run(self):
         """Gates that each merge words of 250,000 detectors: these aren't taken back over all of them before a shot is drawn."""
         circuit = "H 0\nCX 0 1\n" + "CX 1 2\n" * 10_000 + "M 2\nREPEAT 250000 {\n    DETECTOR rec[-1]\n}\n"
@@ -173,9 +166,9 @@ def scrambled(qubits):
     return "".join(f"H{some()}\nS{some()}\nCX{shuffled()}\nISWAP{shuffled()}\n" for _ in range(8))
 
 
-def missed(words, content):
-    """How often a run finds what it reads or writes in no cache, where these have 4 and 32 KiB and lines of 64 bytes. They are
-    simulated, so that nothing else that the machine does matters."""
+def simulated(counted, words, content):
+    """How often something happens in a run, where caches have 4 and 32 KiB and lines of 64 bytes. It is simulated, so that nothing else
+    that the machine does matters."""
     sizes = ["--I1=32768,8,64", "--D1=4096,4,64", "--LL=32768,8,64"]
     with file_of(content) as source:
         ended = subprocess.run(
@@ -186,7 +179,33 @@ def missed(words, content):
             timeout=SECONDS,
             check=True,
         )
-    return int(re.search(r"LLd misses: *([0-9,]+)", ended.stderr.decode())[1].replace(",", ""))
+    return int(re.search(rf"{counted}: *([0-9,]+)", ended.stderr.decode())[1].replace(",", ""))
+
+
+def missed(words, content):
+    """How often a run finds what it reads or writes in no cache."""
+    return simulated("LLd misses", words, content)
+
+
+def executed(words, content):
+    """How many instructions of the processor a run takes."""
+    return simulated("I +refs", words, content)
+
+
+class Instructions(ProgramTest):
+    def test_gates_of_few_qubits_among_many(self):
+        """What a gate costs is what its qubits' words have, and not how many qubits there are."""
+        gates = "REPEAT 2000 {\n    S 0 1 2 3 4 5 6 7 8 9\n}\n"
+        measured = (f"M {qubits - 1}\n" for qubits in (128, 4096))
+        few, many = (executed(["run"], gates + last) - executed(["run"], last) for last in measured)
+        self.assertLess(many, 3 * few)
+
+    def test_probabilities_that_change_from_line_to_line(self):
+        """A text has few of them, so each is read once."""
+        chances = (["0.001"] * 4, ["0.001", "0.002", "0.003", "0.004"])
+        texts = ("".join(f"X_ERROR({chance}) 0\n" for chance in each) * 1000 for each in chances)
+        same, changing = (executed(["run"], text) for text in texts)
+        self.assertLess(4 * changing, 5 * same)
 
 
 class Caches(ProgramTest):
