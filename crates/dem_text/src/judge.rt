@@ -87,6 +87,11 @@ impl Judge<Operation, Target, TargetForm> for ModelJudge {
     }
 
     #[inline(always)]
+    fn are_right(_: TargetForm, _: &[u8], _: &[Target]) -> bool {
+        false
+    }
+
+    #[inline(always)]
     fn are_of_form(form: TargetForm, targets: &[Target]) -> bool {
         are_of_form(form, targets)
     }

@@ -94,7 +94,7 @@ front-below text i v lt short value digits =
     let few : length (take i text) ≤ 17 = omega (arith, length-take i text) in
     omega (arith, value, digits_value-below (take i text) digits, power_at_most (length (take i text)) 17 few)
 
-short_number : (text : List ℕ) (v : ℕ) → 0 < length text → length text ≤ 18 → v ≡ digits_value text → list_all is_ascii_digit text ≡ true → Some v ≡ number_of text
+pub short_number : (text : List ℕ) (v : ℕ) → 0 < length text → length text ≤ 18 → v ≡ digits_value text → list_all is_ascii_digit text ≡ true → Some v ≡ number_of text
 short_number [] v some short value digits = absurd (omega arith)
 short_number (d ∷ text) v some short value digits =
     let small = digits_value-below (d ∷ text) digits in

@@ -1,6 +1,6 @@
 -- The questions of a line in their order: where those before don't apply, the next is asked.
 use Rattle.std.proofs.Common.{◌≡◌, ◌≢◌, ℕ, Bool, true, false, not, ◌||◌, ◌<◌, List, [], ◌∷◌, ◌++◌, cond, find, length, Option, None, Some, refl, ap, ap₂, subst, sym, ◌∙◌, arith}
-use Rattle.std.specs.Prelude.{option_map, unwrap_or, is_none}
+use Rattle.std.specs.Prelude.{option_map}
 use Rattle.std.specs.List.{list_all}
 use Rattle.std.specs.Option.{option_or}
 use Rattle.std.proofs.lemmas.Bool.{false≢true, lt-ltb, ne_eqb, or_right}
@@ -14,10 +14,11 @@ use Rattle.stim_parser.specs.declared.forms.ArgumentForm.TheVariants.{NoArgument
 use Rattle.stim_parser.specs.declared.table.Causes.{Causes}
 use Rattle.stim_parser.specs.declared.table.Keyword.{Keyword}
 use Rattle.stim_parser.specs.Arguments.{arguments_in}
-use Rattle.stim_parser.specs.Judging.{Table, accepted, first_of, judged, misplaces_brace, read_targets, reading_of, refusal_of, refusals_of_name, said_by, unless_refused}
-use Rattle.stim_parser.specs.private.Questions.{has_number_beyond, has_wrong_target, refusals_of_amounts, refusals_of_arguments, refusals_of_block, refusals_of_keyword}
+use Rattle.stim_parser.specs.Judging.{Table, accepted, first_of, judged, misplaces_brace, opens_block, reading_of, refusal_of, refusals_of_name, said_by, unless_refused}
+use Rattle.stim_parser.specs.private.Questions.{refusals_of_arguments, refusals_of_block, refusals_of_keyword, refusals_of_read}
 use Rattle.stim_parser.specs.Limits.{has_argument_beyond, has_wrong_arguments, has_wrong_probability, is_argument, is_wrong_count, takes_probability}
 use Rattle.stim_parser.specs.Probabilities.{AreProbabilities}
+use Rattle.stim_parser.specs.private.Right.{AreRight}
 
 -- ---- one question
 
@@ -54,7 +55,7 @@ pub refusal-name : {O T F : Type 0} (table : Table O T F) (depth : ℕ) (cut : C
     → refusal_of table depth cut ≡ Some (table.refusal_of_name cut.name)
 refusal-name table depth cut n e = refusal-placed table depth cut None n e
 
-pub refusal-keyword : {O T F : Type 0} (table : Table O T F) (depth : ℕ) (cut : Cut) (keyword : Keyword O) → table.keyword_named cut.name ≡ Some keyword → misplaces_brace (Some keyword) cut.braces ≡ false
+refusal-keyword : {O T F : Type 0} (table : Table O T F) (depth : ℕ) (cut : Cut) (keyword : Keyword O) → table.keyword_named cut.name ≡ Some keyword → misplaces_brace (Some keyword) cut.braces ≡ false
     → refusal_of table depth cut ≡ first_of (refusals_of_keyword table depth keyword cut)
 refusal-keyword table depth cut keyword n e = refusal-placed table depth cut (Some keyword) n e
 
@@ -123,53 +124,50 @@ improbable : (arguments : List (List ℕ)) → has_wrong_probability WholeNumber
 unfolding has_wrong_probability
 improbable arguments = refl
 
-pub whole_right : (causes : Causes) (cut : Cut) → cut.stays_open ≡ false → has_wrong_arguments WholeNumbers (arguments_in cut.arguments) ≡ false
+whole_right : (causes : Causes) (cut : Cut) → cut.stays_open ≡ false → has_wrong_arguments WholeNumbers (arguments_in cut.arguments) ≡ false
     → first_of (refusals_of_arguments causes WholeNumbers cut) ≡ None
 whole_right causes cut closed right =
     right_arguments causes WholeNumbers cut closed right (improbable (arguments_in cut.arguments))
 
-pub whole_wrong : (causes : Causes) (cut : Cut) → has_wrong_arguments WholeNumbers (arguments_in cut.arguments) ≡ true
-    → first_of (refusals_of_arguments causes WholeNumbers cut) ≡ Some causes.arguments
-whole_wrong causes cut wrong =
-    let arguments = arguments_in cut.arguments in
-    applies (cut.stays_open || has_wrong_arguments WholeNumbers arguments) causes.arguments ((has_wrong_probability WholeNumbers arguments, causes.probability) ∷ [])
-    (or_right cut.stays_open (has_wrong_arguments WholeNumbers arguments) wrong)
+pub whole_numbers : (causes : Causes) (greatest : ℕ) (form : ArgumentForm) (cut : Cut) (beyond : Bool) → form ≡ WholeNumbers → cut.stays_open ≡ false
+    → (beyond ≡ has_argument_beyond greatest WholeNumbers (arguments_in cut.arguments)) × (has_wrong_arguments WholeNumbers (arguments_in cut.arguments) ≡ false)
+    → (beyond ≡ has_argument_beyond greatest form (arguments_in cut.arguments)) × (first_of (refusals_of_arguments causes form cut) ≡ None)
+whole_numbers causes greatest form cut beyond asked closed h =
+    subst (λ f. (beyond ≡ has_argument_beyond greatest f (arguments_in cut.arguments)) × (first_of (refusals_of_arguments causes f cut) ≡ None)) (sym asked) (h.0, whole_right causes cut closed h.1)
 
--- ---- a line's targets
+-- ---- a line's targets, and its block
 
-pub wrong_target-at : {O T F : Type 0} (table : Table O T F) (form : F) (text : List ℕ) (found : Option (List T)) → table.line_targets form text ≡ found
-    → has_wrong_target table form text ≡ (is_none found || not (table.are_of_form form (unwrap_or found [])))
-wrong_target-at {O} {T} table form text found e =
-    ap (λ (o : Option (List T)). is_none o || not (table.are_of_form form (unwrap_or o []))) e
+-- what the questions of the targets give, or else those of the block
+pub read-targets : {O T F : Type 0} (table : Table O T F) (depth : ℕ) (keyword : Keyword O) (beyond : Bool) (form : F) (text : List ℕ) (targets : List T) (found : Option Cause) → table.are_of_form form targets ≡ true
+    → (beyond || table.has_target_beyond form targets) ≡ false → first_of (table.refusals_of_targets form text targets) ≡ found
+    → first_of (refusals_of_read table depth keyword beyond form text (Some targets))
+    ≡ option_or found (first_of (refusals_of_block table.causes depth keyword (table.turns_of targets)))
+read-targets table depth keyword beyond form text targets found e b f =
+    let block = refusals_of_block table.causes depth keyword (table.turns_of targets) in
+    passes (not (table.are_of_form form targets)) table.causes.target ((beyond || table.has_target_beyond form targets, table.causes.number) ∷ (table.refusals_of_targets form text targets ++ block)) (ap not e)
+    ∙ passes (beyond || table.has_target_beyond form targets) table.causes.number (table.refusals_of_targets form text targets ++ block) b
+    ∙ first_of-append (table.refusals_of_targets form text targets) block
+    ∙ ap (λ o. option_or o (first_of block)) f
 
-pub read_targets-at : {O T F : Type 0} (table : Table O T F) (form : F) (text : List ℕ) (found : Option (List T)) → table.line_targets form text ≡ found → read_targets table form text ≡ unwrap_or found []
-read_targets-at {O} {T} table form text found e = ap (λ (o : Option (List T)). unwrap_or o []) e
+no_block : {O : Type 0} (causes : Causes) (depth : ℕ) (keyword : Keyword O) (turns : ℕ) → opens_block keyword ≡ false → first_of (refusals_of_block causes depth keyword turns) ≡ None
+no_block causes depth keyword turns e = rw e refl
 
--- ---- a keyword's arguments, targets and amounts
+-- where nothing is wrong
+pub read-right : {O T F : Type 0} (table : Table O T F) (depth : ℕ) (keyword : Keyword O) (beyond : Bool) (form : F) (text : List ℕ) (targets : List T) → beyond ≡ false → opens_block keyword ≡ false
+    → AreRight table form text targets → first_of (refusals_of_read table depth keyword beyond form text (Some targets)) ≡ None
+read-right table depth keyword beyond form text targets b opens right =
+    read-targets table depth keyword beyond form text targets None right.of_form (ap₂ (λ x y. x || y) b right.within) right.others
+    ∙ no_block table.causes depth keyword (table.turns_of targets) opens
 
-keyword-after : {O T F : Type 0} (table : Table O T F) (depth : ℕ) (keyword : Keyword O) (cut : Cut) (found : Option Cause) → first_of (refusals_of_arguments table.causes (table.argument_form keyword) cut) ≡ found
-    → first_of (refusals_of_keyword table depth keyword cut)
-    ≡ option_or found (first_of ((has_wrong_target table (table.target_form keyword) cut.targets, table.causes.target) ∷ refusals_of_amounts table depth keyword cut))
-keyword-after table depth keyword cut found e =
-    let rest : List (Bool × Cause) = (has_wrong_target table (table.target_form keyword) cut.targets, table.causes.target) ∷ refusals_of_amounts table depth keyword cut in
-    first_of-append (refusals_of_arguments table.causes (table.argument_form keyword) cut) rest ∙ ap (λ o. option_or o (first_of rest)) e
+-- ---- a keyword's arguments
 
 pub keyword-arguments : {O T F : Type 0} (table : Table O T F) (depth : ℕ) (keyword : Keyword O) (cut : Cut) (c : Cause) → first_of (refusals_of_arguments table.causes (table.argument_form keyword) cut) ≡ Some c
     → first_of (refusals_of_keyword table depth keyword cut) ≡ Some c
-keyword-arguments table depth keyword cut c e = keyword-after table depth keyword cut (Some c) e
-
--- what the questions of the targets give, or else those of the block
-pub amounts-targets : {O T F : Type 0} (table : Table O T F) (depth : ℕ) (keyword : Keyword O) (cut : Cut) (found : Option Cause) → has_number_beyond table keyword cut ≡ false
-    → first_of (table.refusals_of_targets (table.target_form keyword) cut.targets (read_targets table (table.target_form keyword) cut.targets)) ≡ found
-    → first_of (refusals_of_amounts table depth keyword cut)
-    ≡ option_or found (first_of (refusals_of_block table.causes depth keyword (table.turns_of (read_targets table (table.target_form keyword) cut.targets))))
-amounts-targets table depth keyword cut found e f =
+keyword-arguments table depth keyword cut c e =
     let form = table.target_form keyword in
-    let targets = read_targets table form cut.targets in
-    let block = refusals_of_block table.causes depth keyword (table.turns_of targets) in
-    passes (has_number_beyond table keyword cut) table.causes.number (table.refusals_of_targets form cut.targets targets ++ block) e
-    ∙ first_of-append (table.refusals_of_targets form cut.targets targets) block
-    ∙ ap (λ o. option_or o (first_of block)) f
+    let rest : List (Bool × Cause) =
+    refusals_of_read table depth keyword (has_argument_beyond table.greatest_coordinate (table.argument_form keyword) (arguments_in cut.arguments)) form cut.targets (table.line_targets form cut.targets) in
+    first_of-append (refusals_of_arguments table.causes (table.argument_form keyword) cut) rest ∙ ap (λ o. option_or o (first_of rest)) e
 
 -- ---- a line
 
@@ -184,10 +182,11 @@ reading-refused table depth number cut c other e =
     line_judged table depth number cut cut.braces other
     ∙ ap (λ (refusal : Option Cause). unless_refused refusal (accepted table number (table.keyword_named cut.name) cut)) e
 
-pub reading-accepted : {O T F : Type 0} (table : Table O T F) (depth number : ℕ) (cut : Cut) (keyword : Keyword O) → cut.braces ≢ ClosingAlone → table.keyword_named cut.name ≡ Some keyword
-    → refusal_of table depth cut ≡ None → reading_of table depth number cut ≡ accepted table number (Some keyword) cut
+-- a line whose braces stand as its keyword asks
+pub reading-keyword : {O T F : Type 0} (table : Table O T F) (depth number : ℕ) (cut : Cut) (keyword : Keyword O) → cut.braces ≢ ClosingAlone → table.keyword_named cut.name ≡ Some keyword
+    → misplaces_brace (Some keyword) cut.braces ≡ false
+    → reading_of table depth number cut ≡ unless_refused (first_of (refusals_of_keyword table depth keyword cut)) (accepted table number (Some keyword) cut)
 unfolding reading_of judged
-reading-accepted {O} table depth number cut keyword other n e =
+reading-keyword {O} table depth number cut keyword other n placed =
     line_judged table depth number cut cut.braces other
-    ∙ (ap (λ (refusal : Option Cause). unless_refused refusal (accepted table number (table.keyword_named cut.name) cut)) e
-    ∙ ap (λ (named : Option (Keyword O)). accepted table number named cut) n)
+    ∙ ap₂ (λ (refusal : Option Cause) (named : Option (Keyword O)). unless_refused refusal (accepted table number named cut)) (refusal-keyword table depth cut keyword n placed) n

@@ -13,7 +13,9 @@ pub mod NumberLemmas
 pub mod AcceptedLemmas
 mod CheckLemmas
 mod DigitLemmas
+mod FrontNumberLemmas
 mod JudgeLemmas
+mod NearLemmas
 pub mod NameLemmas
 mod PieceLemmas
 mod PieceValueLemmas
@@ -24,6 +26,7 @@ pub mod CircuitFits
 pub mod WholeNumberLemmas
 mod WrittenLemmas
 pub mod TargetNumbers
+mod TargetPieces
 mod TargetWords
 pub mod RecordTargets
 pub mod NumberArguments

@@ -2,11 +2,7 @@
 use Rattle.std.proofs.Common.{◌≡◌, ℕ, List, [], ◌∷◌, ◌++◌, Option, None, Some, refl, ap, sym, append_assoc}
 use Rattle.std.proofs.lemmas.List.{append-nil}
 use Rattle.stim_parser.specs.Targets.{each_of}
-
--- the values read before, and those of the pieces that follow
-abbrev pub with_front : {V : Type 0} → List V → Option (List V) → Option (List V)
-with_front front None = None
-with_front front (Some values) = Some (front ++ values)
+use Rattle.stim_parser.specs.private.FrontNumbers.{with_front}
 
 one_more : {V : Type 0} (front : List V) (value : V) (rest : Option (List V)) → with_front front (elim rest [ None ↦ None | Some ts ↦ Some (value ∷ ts) ]) ≡ with_front (front ++ value ∷ []) rest
 one_more front value None = refl

@@ -6,3 +6,6 @@ pub mod Questions
 pub mod Significant
 pub mod ShortNumbers
 pub mod Remembered
+pub mod NearTargets
+pub mod FrontNumbers
+pub mod Right

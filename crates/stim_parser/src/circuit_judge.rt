@@ -8,6 +8,7 @@ ghost use Rattle.stim_parser.specs.Verdicts.{circuit_table, takes_none, turns_of
 use crate::forms::{ArgumentForm, TargetForm};
 use crate::last::Last;
 use crate::names::is_left_out;
+use crate::near_targets::are_right;
 use crate::numbers::GREATEST_COORDINATE;
 use crate::operation::Operation;
 use crate::table::{Causes, Judge, Keyword};
@@ -139,6 +140,11 @@ impl Judge<Operation, TargetWord, TargetForm> for CircuitJudge {
             return Ok(true);
         }
         read_targets(targets, text)
+    }
+
+    #[inline(always)]
+    fn are_right(form: TargetForm, text: &[u8], targets: &[TargetWord]) -> bool {
+        are_right(form, text, targets)
     }
 
     #[inline(always)]

@@ -8,7 +8,7 @@ ghost use Rattle.stim_parser.specs.Numbers.{is_number, number_of, value_of};
 pub(crate) const BEYOND_ALL: u64 = 1_000_000_000_000_000_000;
 
 /// A number of at most this many digits isn't beyond every limit.
-const SHORT_DIGITS: usize = 18;
+pub(crate) const SHORT_DIGITS: usize = 18;
 
 /// The number that digits write, or the one beyond every limit where it is greater.
 #[inline(always)]

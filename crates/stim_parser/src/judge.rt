@@ -1,14 +1,12 @@
-ghost use Rattle.std.specs.Prelude.{◌≡◌, ◌≢◌, ◌==◌, if◌then◌else◌, ℕ, List, None, not, true, false, IfOk};
+ghost use Rattle.std.specs.Prelude.{◌≡◌, ◌≢◌, ◌==◌, if◌then◌else◌, ℕ, List, None, Some, true, false, IfOk};
 ghost use Rattle.stim_lexer.specs.Lexing.{cut_in};
 ghost use Rattle.stim_lexer.specs.Said.{reading_in};
 ghost use Rattle.stim_lexer.specs.Texts.{Closes, Refuses};
 ghost use Rattle.stim_parser.specs.declared.forms.ArgumentForm.TheVariants.{NoArguments, WholeNumbers};
-ghost use Rattle.stim_parser.specs.Arguments.{arguments_in};
-ghost use Rattle.stim_parser.specs.Limits.{has_argument_beyond};
 ghost use Rattle.stim_parser.specs.Parentheses.{Parentheses};
 ghost use Rattle.stim_parser.specs.Probabilities.{Remembers, RemembersText, TakesNothing};
-ghost use Rattle.stim_parser.specs.Judging.{accepted, first_of, misplaces_brace, opens_block, reading_of, read_targets};
-ghost use Rattle.stim_parser.specs.private.Questions.{ArgumentsOf, KeywordOf, has_wrong_target, refusals_of_amounts, refusals_of_block, refusals_of_keyword};
+ghost use Rattle.stim_parser.specs.Judging.{accepted, first_of, misplaces_brace, opens_block, reading_of, read_targets, unless_refused};
+ghost use Rattle.stim_parser.specs.private.Questions.{AreWholeNumbers, ArgumentsOf, refusals_of_block, refusals_of_keyword, refusals_of_read};
 
 use crate::argument_checks::{
     chance_of, has_number_beyond, has_wrong_arguments, has_wrong_probability, takes_probability,
@@ -28,26 +26,11 @@ use stim_lexer::{Braces, LEVELS, Line, LineTargets, Said};
 fn misplaces_brace<O: Copy>(keyword: Option<Keyword<O>>, braces: Braces) -> bool
     ensures { result ≡ misplaces_brace keyword braces }
 {
-    match keyword {
-        Some(Keyword::Repeats) => !matches!(braces, Braces::OpeningLast),
-        _ => !matches!(braces, Braces::NoBrace),
-    }
-}
-
-/// The keyword of a line that doesn't close a block, where its braces stand as that asks.
-fn keyword_of<'a, O: Copy, T: Copy, F: Copy, J: Judge<O, T, F>>(
-    last: &mut Last<'a>,
-    line: Line<'a>,
-) -> Result<Keyword<O>, Cause>
-    ensures { KeywordOf J.table (cut_in line.entry) result }
-{
-    let keyword = J::keyword_named(last, line.name);
-    if misplaces_brace(keyword, line.braces) {
-        return Err(J::causes().block);
-    }
-    match keyword {
-        Some(keyword) => Ok(keyword),
-        None => Err(J::refusal_of_name(line.name)),
+    let opens = matches!(keyword, Some(Keyword::Repeats));
+    match braces {
+        Braces::NoBrace => opens,
+        Braces::OpeningLast => !opens,
+        Braces::ClosingAlone | Braces::Misplaced => true,
     }
 }
 
@@ -79,7 +62,10 @@ fn arguments_of<'a>(
         return Ok(false);
     }
     if let ArgumentForm::WholeNumbers = form {
-        return whole_numbers_of(causes, greatest, line);
+        return match whole_numbers_of(greatest, line.arguments) {
+            Some(beyond) => Ok(beyond),
+            None => Err(causes.arguments),
+        };
     }
     if last.parentheses.recall(form, line.arguments) {
         return Ok(false);
@@ -87,30 +73,30 @@ fn arguments_of<'a>(
     closed_arguments_of(last, causes, greatest, form, line)
 }
 
-/// The same for a line that takes whole numbers, and on which no tag and no parentheses stay open. Most are short, and
-/// found so at once. It stands apart, since other lines have the registers to themselves then.
+/// Whether one of the whole numbers that are the arguments of a text is greater than the greatest; none
+/// where they are of another number or form. Most are short, and found so at once. It stands apart,
+/// since other lines have the registers to themselves then.
 #[inline(never)]
-fn whole_numbers_of(causes: Causes, greatest: u64, line: Line<'_>) -> Result<bool, Cause>
-    requires { line.stays_open ≡ false }
-    ensures { ArgumentsOf causes greatest WholeNumbers (cut_in line.entry) result }
+fn whole_numbers_of(greatest: u64, text: &[u8]) -> Option<bool>
+    ensures { AreWholeNumbers greatest text.now result }
 {
-    if GREATEST_SHORT <= greatest && are_short(line.arguments) {
-        return Ok(false);
+    if GREATEST_SHORT <= greatest && are_short(text) {
+        return Some(false);
     }
-    whole_numbers_in(causes, greatest, line)
+    whole_numbers_in(greatest, text)
 }
 
-/// The same for such a line, whose numbers are kept first. It stands apart, since the list would be cleared at each line.
+/// The same, where the numbers are kept first. It stands apart, since the list would be cleared at each
+/// line.
 #[inline(never)]
-fn whole_numbers_in(causes: Causes, greatest: u64, line: Line<'_>) -> Result<bool, Cause>
-    requires { line.stays_open ≡ false }
-    ensures { ArgumentsOf causes greatest WholeNumbers (cut_in line.entry) result }
+fn whole_numbers_in(greatest: u64, text: &[u8]) -> Option<bool>
+    ensures { AreWholeNumbers greatest text.now result }
 {
     let mut numbers = ArrayVec::new();
-    if put_whole_numbers(&mut numbers, line.arguments) {
-        Ok(are_beyond(greatest, numbers.as_slice()))
+    if put_whole_numbers(&mut numbers, text) {
+        Some(are_beyond(greatest, numbers.as_slice()))
     } else {
-        Err(causes.arguments)
+        None
     }
 }
 
@@ -145,24 +131,6 @@ fn closed_arguments_of<'a>(
     Ok(has_number_beyond(form, arguments.as_slice()))
 }
 
-/// Puts the targets of a line into `targets`, in place of what it held, and answers whether each can be read and is of
-/// this form.
-fn read_line_targets<O: Copy, T: Copy, F: Copy, J: Judge<O, T, F>, L: LineTargets<T>>(
-    targets: &mut L,
-    form: F,
-    text: &[u8],
-) -> Result<bool, AllocError>
-    ensures wrong { IfOk result (λ right. has_wrong_target J.table form text.now ≡ not right) }
-    ensures targets { IfOk result (λ right. right ≡ true
-        → L.targets targets.new ≡ read_targets J.table form text.now) }
-    ensures others { IfOk result (λ right. L.others targets.new ≡ L.others targets.old) }
-{
-    if !J::read_targets(targets, form, text)? {
-        return Ok(false);
-    }
-    Ok(J::are_of_form(form, targets.as_slice()))
-}
-
 fn opens_block<O: Copy>(keyword: Keyword<O>) -> bool
     ensures { result ≡ opens_block keyword }
 {
@@ -190,31 +158,51 @@ fn refusal_of_block<O: Copy, T: Copy, F: Copy, J: Judge<O, T, F>>(
     None
 }
 
-/// The refusal of a line whose arguments and targets are of their forms. `beyond` says whether an argument is beyond
-/// its limit.
-fn refusal_of_amounts<O: Copy, T: Copy, F: Copy, J: Judge<O, T, F>>(
+/// The refusal of a line by its targets, which were read from a text, and by the block that it opens.
+/// `beyond` says whether an argument is beyond its limit. It stands apart, since few lines need it.
+#[inline(never)]
+fn refusal_by_questions<O: Copy, T: Copy, F: Copy, J: Judge<O, T, F>>(
     depth: usize,
     keyword: Keyword<O>,
-    form: F,
-    line: Line,
     beyond: bool,
+    form: F,
+    text: &[u8],
     targets: &[T],
 ) -> Option<Cause>
-    requires arguments { beyond
-        ≡ has_argument_beyond J.table.greatest_coordinate (J.table.argument_form keyword)
-        (arguments_in line.arguments.now) }
-    requires form { form ≡ J.table.target_form keyword }
-    requires targets { targets.now
-        ≡ read_targets J.table (J.table.target_form keyword) line.targets.now }
-    ensures { result ≡ first_of (refusals_of_amounts J.table depth keyword (cut_in line.entry)) }
+    ensures { result
+        ≡ first_of (refusals_of_read J.table depth keyword beyond form text.now
+        (Some targets.now)) }
 {
+    if !J::are_of_form(form, targets) {
+        return Some(J::causes().target);
+    }
     if beyond || J::has_target_beyond(form, targets) {
         return Some(J::causes().number);
     }
-    match J::refusal_of_targets(form, line.targets, targets) {
+    match J::refusal_of_targets(form, text, targets) {
         Some(cause) => Some(cause),
         None => refusal_of_block::<O, T, F, J>(depth, keyword, targets),
     }
+}
+
+/// The same, for most lines by one question.
+#[inline(always)]
+fn refusal_of_read<O: Copy, T: Copy, F: Copy, J: Judge<O, T, F>>(
+    depth: usize,
+    keyword: Keyword<O>,
+    beyond: bool,
+    form: F,
+    text: &[u8],
+    targets: &[T],
+) -> Option<Cause>
+    ensures { result
+        ≡ first_of (refusals_of_read J.table depth keyword beyond form text.now
+        (Some targets.now)) }
+{
+    if !beyond && !opens_block(keyword) && J::are_right(form, text, targets) {
+        return None;
+    }
+    refusal_by_questions::<O, T, F, J>(depth, keyword, beyond, form, text, targets)
 }
 
 /// The refusal of a line with this keyword, where `depth` blocks are open. Where there is none, `targets` has the
@@ -242,10 +230,17 @@ fn refusal_of<'a, O: Copy, T: Copy, F: Copy, J: Judge<O, T, F>, L: LineTargets<T
         Err(cause) => return Ok(Some(cause)),
     };
     let form = J::target_form(keyword);
-    if !read_line_targets::<O, T, F, J, L>(targets, form, line.targets)? {
+    if !J::read_targets(targets, form, line.targets)? {
         return Ok(Some(J::causes().target));
     }
-    Ok(refusal_of_amounts::<O, T, F, J>(depth, keyword, form, line, beyond, targets.as_slice()))
+    Ok(refusal_of_read::<O, T, F, J>(
+        depth,
+        keyword,
+        beyond,
+        form,
+        line.targets,
+        targets.as_slice(),
+    ))
 }
 
 /// What a line says that isn't refused.
@@ -283,6 +278,28 @@ fn closed_at<'a, O: Copy, T: Copy>(causes: Causes, depth: usize) -> Said<'a, O>
     }
 }
 
+/// What a line with this keyword says, whose braces stand as the keyword asks.
+#[inline(always)]
+fn said_with<'a, O: Copy, T: Copy, F: Copy, J: Judge<O, T, F>, L: LineTargets<T>>(
+    last: &mut Last<'a>,
+    targets: &mut L,
+    depth: usize,
+    keyword: Keyword<O>,
+    line: Line<'a>,
+) -> Result<Said<'a, O>, AllocError>
+    ensures reading { IfOk result (λ said. reading_in line.entry.number said (L.targets targets.new)
+        ≡ unless_refused
+        (first_of (refusals_of_keyword J.table depth keyword (cut_in line.entry)))
+        (accepted J.table line.entry.number (Some keyword) (cut_in line.entry))) }
+    ensures others { IfOk result (λ said. L.others targets.new ≡ L.others targets.old) }
+    ensures last { IfOk result (λ said. Remembers J.table said last.new.parentheses) }
+{
+    match refusal_of::<O, T, F, J, L>(last, targets, depth, keyword, line)? {
+        Some(cause) => Ok(Said::Refuses(cause)),
+        None => Ok(accepted::<O, T, F, J>(keyword, line, targets.as_slice())),
+    }
+}
+
 /// Reads a cut line where `depth` blocks are open, and puts its targets into `targets`, in place of what it held. Where
 /// the line is no accepted instruction, nothing is promised of `targets`.
 #[tactic(auto, unfolding(crate::specs::Judging::reading_of))]
@@ -300,13 +317,13 @@ pub fn read_line<'a, O: Copy, T: Copy, F: Copy, J: Judge<O, T, F>, L: LineTarget
     match line.braces {
         Braces::ClosingAlone => Ok(closed_at::<O, T>(J::causes(), depth)),
         _ => {
-            let keyword = match keyword_of::<O, T, F, J>(last, line) {
-                Ok(keyword) => keyword,
-                Err(cause) => return Ok(Said::Refuses(cause)),
-            };
-            match refusal_of::<O, T, F, J, L>(last, targets, depth, keyword, line)? {
-                Some(cause) => Ok(Said::Refuses(cause)),
-                None => Ok(accepted::<O, T, F, J>(keyword, line, targets.as_slice())),
+            let keyword = J::keyword_named(last, line.name);
+            if misplaces_brace(keyword, line.braces) {
+                return Ok(Said::Refuses(J::causes().block));
+            }
+            match keyword {
+                Some(keyword) => said_with::<O, T, F, J, L>(last, targets, depth, keyword, line),
+                None => Ok(Said::Refuses(J::refusal_of_name(line.name))),
             }
         }
     }

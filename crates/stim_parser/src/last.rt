@@ -78,7 +78,7 @@ impl<'a> LastNames<'a> {
         ensures { result ≡ keyword_named name.now }
     {
         let place = place_of(name);
-        let named = self.names[place];
+        let named = &self.names[place];
         if named.name == name {
             return named.keyword;
         }

@@ -53,24 +53,11 @@ pub(crate) fn has_pair_of_records(targets: &[TargetWord]) -> bool
     false
 }
 
-/// Whether a target is this qubit.
-fn is_plain_at(qubit: u64, target: TargetWord) -> bool
-    ensures { result ≡ is_same_qubit (Target.Plain qubit) target }
-{
-    match target.get() {
-        Target::Plain(other) => qubit == other,
-        _ => false,
-    }
-}
-
 /// Whether two targets are the same qubit.
-fn is_same_qubit(first: TargetWord, second: TargetWord) -> bool
+pub(crate) fn is_same_qubit(first: TargetWord, second: TargetWord) -> bool
     ensures { result ≡ is_same_qubit first second }
 {
-    match first.get() {
-        Target::Plain(qubit) => is_plain_at(qubit, second),
-        _ => false,
-    }
+    first.is(second) && is_plain(first)
 }
 
 /// Whether a pair from the left names one qubit twice.

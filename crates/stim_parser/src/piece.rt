@@ -3,13 +3,20 @@ ghost use Rattle.stim_parser.specs.Pieces.{ends_piece, pieces_of};
 
 use stim_lexer::{after_blanks, is_blank};
 
+/// Whether a piece ends before a byte.
+#[inline(always)]
+pub(crate) fn ends_piece(byte: u8) -> bool
+    ensures { result ≡ ends_piece byte }
+{
+    is_blank(byte) || byte == b'*'
+}
+
 /// Where the first byte stands before which a piece ends.
 #[inline(always)]
 fn place_of_end(text: &[u8]) -> Option<usize>
     ensures { result ≡ position ends_piece text.now }
 {
-    text.iter()
-        .position(|byte| is_blank(*byte) || *byte == b'*')
+    text.iter().position(|byte| ends_piece(*byte))
 }
 
 /// The first piece of a text, and what follows it. There is none where all is blank.

@@ -1,6 +1,7 @@
-ghost use Rattle.std.specs.Prelude.{◌≡◌, None, Some, false, IfOk, MatchBool};
+ghost use Rattle.std.specs.Prelude.{◌≡◌, None, Some, false, true, IfOk, MatchBool};
 ghost use Rattle.stim_lexer.specs.Instructions.{Instruction};
 ghost use Rattle.stim_parser.specs.Judging.{Table, first_of};
+ghost use Rattle.stim_parser.specs.private.Right.{AreRight};
 
 use crate::forms::ArgumentForm;
 use crate::last::Last;
@@ -64,6 +65,11 @@ pub trait Judge<O: Copy, T: Copy, F: Copy> {
             (table.line_targets form text.now ≡ Some (L.targets targets.new))
             (table.line_targets form text.now ≡ None)) }
         ensures others { IfOk result (λ all. L.others targets.new ≡ L.others targets.old) };
+
+    /// Whether it is found at once that nothing is wrong with the targets of a line. Then no other
+    /// question has to be asked.
+    fn are_right(form: F, text: &[u8], targets: &[T]) -> bool
+        ensures { result ≡ true → AreRight table form text.now targets.now };
 
     /// Whether targets are of a form.
     fn are_of_form(form: F, targets: &[T]) -> bool

@@ -4,11 +4,12 @@ ghost use Rattle.stim_parser.specs.Numbers.{number_of};
 ghost use Rattle.stim_parser.specs.Targets.{inverted_of, letter_of, marked_of, pauli_of, record_of, target_of, targets_in};
 
 use crate::digits::number_of;
-use crate::piece_values::{PieceValue, read_pieces};
+use crate::front_number::front_number;
+use crate::piece_values::{PieceValue, push_pieces};
 use crate::target_word::TargetWord;
 use pauli_word::Letter;
 use std::alloc::AllocError;
-use stim_lexer::LineTargets;
+use stim_lexer::{LineTargets, after_blanks};
 
 /// A target as it is written. All numbers from 10^18 on are taken as one, which is beyond every limit.
 #[derive(Clone, Copy)]
@@ -148,7 +149,8 @@ impl PieceValue for TargetWord {
     }
 }
 
-/// Puts the targets of a text in place of those that were there. Answers whether each of its pieces is a target.
+/// Puts the targets of a text in place of those that were there. Answers whether each of its pieces is
+/// a target. As long as they are numbers, each is read in one step.
 #[tactic(auto, unfolding(crate::specs::Targets::targets_in))]
 pub(crate) fn read_targets<L: LineTargets<TargetWord>>(
     targets: &mut L,
@@ -159,5 +161,14 @@ pub(crate) fn read_targets<L: LineTargets<TargetWord>>(
         (targets_in text.now ≡ None)) }
     ensures others { IfOk result (λ all. L.others targets.new ≡ L.others targets.old) }
 {
-    read_pieces(targets, text)
+    targets.clear();
+    let mut rest = after_blanks(text);
+    while let Some((qubit, after)) = front_number(rest) {
+        targets.push(TargetWord::new(Target::Plain(qubit)))?;
+        rest = after_blanks(after);
+    }
+    if rest.is_empty() {
+        return Ok(true);
+    }
+    push_pieces(targets, rest)
 }

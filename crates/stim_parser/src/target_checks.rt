@@ -12,14 +12,14 @@ use crate::target::Target;
 use crate::target_word::TargetWord;
 
 /// Whether a target is a number, with a `!` before it or not.
-fn is_plain_or_inverted(target: TargetWord) -> bool
+pub(crate) fn is_plain_or_inverted(target: TargetWord) -> bool
     ensures { result ≡ is_plain_or_inverted target }
 {
     matches!(target.get(), Target::Plain(_) | Target::Inverted(_))
 }
 
 /// Whether a target is a letter at a qubit, without a `!`.
-fn is_pauli(target: TargetWord) -> bool
+pub(crate) fn is_pauli(target: TargetWord) -> bool
     ensures { result ≡ is_pauli target }
 {
     matches!(target.get(), Target::Pauli(false, _, _))

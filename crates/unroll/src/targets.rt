@@ -52,8 +52,10 @@ pub(crate) struct Reach {
     pub is_far: bool,
 }
 
-/// How far targets reach after this many records.
-pub(crate) fn reach_of(records: u64, targets: &[TargetWord]) -> Reach
+/// How far targets reach after this many records. It stands apart, since most lines have numbers
+/// alone.
+#[inline(never)]
+fn reach_of_any(records: u64, targets: &[TargetWord]) -> Reach
     requires { All (λ target. qubits_to target ≤ most_qubits) targets.now }
     ensures qubits { result.qubits ≡ qubits_named targets.now }
     ensures far { result.is_far ≡ reaches_far records targets.now }
@@ -70,6 +72,28 @@ pub(crate) fn reach_of(records: u64, targets: &[TargetWord]) -> Reach
     Reach {
         qubits,
         is_far: far,
+    }
+}
+
+/// The same, where numbers alone are asked no more than which of them is the greatest.
+#[inline(always)]
+pub(crate) fn reach_of(records: u64, targets: &[TargetWord]) -> Reach
+    requires { All (λ target. qubits_to target ≤ most_qubits) targets.now }
+    ensures qubits { result.qubits ≡ qubits_named targets.now }
+    ensures far { result.is_far ≡ reaches_far records targets.now }
+{
+    let mut qubits: u32 = 0;
+    let mut rest = targets;
+    while let [first, after @ ..] = rest {
+        let Some(qubit) = first.plain() else {
+            return reach_of_any(records, targets);
+        };
+        qubits = qubits.max(qubit as u32 + 1);
+        rest = after;
+    }
+    Reach {
+        qubits,
+        is_far: false,
     }
 }
 

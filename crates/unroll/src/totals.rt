@@ -61,13 +61,8 @@ fn repeated_sum(turns: u64, before: u64, after: u64) -> u64
 fn keep_first(found: &mut Option<u64>, holds: bool, line: u64)
     ensures { found.new ≡ first_line found.old holds line }
 {
-    match *found {
-        Some(_) => {}
-        None => {
-            if holds {
-                *found = Some(line);
-            }
-        }
+    if holds && found.is_none() {
+        *found = Some(line);
     }
 }
 

@@ -1,13 +1,14 @@
 -- Parts of the list of a line's questions, as the judge of lines asks them one after another. (This project's own.)
-use Rattle.std.specs.Prelude.{◌≡◌, ℕ, ◌==◌, nat_le, Bool, false, not, ◌&&◌, ◌||◌, List, [], ◌∷◌, ◌++◌, None, Some, Result, MatchResult, is_none}
+use Rattle.std.specs.Prelude.{◌≡◌, ℕ, ◌==◌, nat_le, Bool, true, false, not, ◌&&◌, ◌||◌, List, [], ◌∷◌, ◌++◌, Option, None, Some, Result, MatchOption, MatchResult, is_none, unwrap_or}
 use Rattle.step_model.specs.declared.fault.Cause.{Cause}
 use Rattle.stim_lexer.specs.Cut.{Cut}
 use Rattle.stim_lexer.specs.Trees.{deepest}
 use Rattle.stim_parser.specs.declared.forms.ArgumentForm.{ArgumentForm}
+use Rattle.stim_parser.specs.declared.forms.ArgumentForm.TheVariants.{WholeNumbers}
 use Rattle.stim_parser.specs.declared.table.Causes.{Causes}
 use Rattle.stim_parser.specs.declared.table.Keyword.{Keyword}
 use Rattle.stim_parser.specs.Arguments.{arguments_in}
-use Rattle.stim_parser.specs.Judging.{Table, first_of, misplaces_brace, opens_block, read_targets, refusal_of, refusals_of_name}
+use Rattle.stim_parser.specs.Judging.{Table, first_of, opens_block, refusals_of_name}
 use Rattle.stim_parser.specs.Limits.{has_wrong_arguments, has_wrong_probability, has_argument_beyond}
 
 -- the questions of a line with this keyword
@@ -21,13 +22,6 @@ refusals_of_arguments causes form cut =
     ∷ (has_wrong_probability form (arguments_in cut.arguments), causes.probability)
     ∷ []
 
--- of a line: its keyword, where its braces stand as that asks, or its refusal
-abbrev pub KeywordOf : {O T F : Type 0} → Table O T F → Cut → Result (Keyword O) Cause → Type 0
-KeywordOf table cut result =
-    MatchResult result
-    (λ keyword. (table.keyword_named cut.name ≡ Some keyword) × (misplaces_brace (Some keyword) cut.braces ≡ false))
-    (λ refused. (depth : ℕ) → refusal_of table depth cut ≡ Some refused)
-
 -- of a line's arguments: whether one is beyond its limit, where they are of their number and form, or their refusal
 abbrev pub ArgumentsOf : Causes → ℕ → ArgumentForm → Cut → Result Bool Cause → Type 0
 ArgumentsOf causes greatest form cut result =
@@ -37,16 +31,14 @@ ArgumentsOf causes greatest form cut result =
     × (first_of (refusals_of_arguments causes form cut) ≡ None))
     (λ refused. first_of (refusals_of_arguments causes form cut) ≡ Some refused)
 
--- targets that can't be read, or of another form
-abbrev pub has_wrong_target : {O T F : Type 0} → Table O T F → F → List ℕ → Bool
-has_wrong_target table form text =
-    is_none (table.line_targets form text) || not (table.are_of_form form (read_targets table form text))
-
-abbrev pub has_number_beyond : {O T F : Type 0} → Table O T F → Keyword O → Cut → Bool
-has_number_beyond table keyword cut =
-    let form = table.target_form keyword in
-    has_argument_beyond table.greatest_coordinate (table.argument_form keyword) (arguments_in cut.arguments)
-    || table.has_target_beyond form (read_targets table form cut.targets)
+-- of whole numbers that are arguments: whether one is beyond the greatest, where they are of their number and form
+abbrev pub AreWholeNumbers : ℕ → List ℕ → Option Bool → Type 0
+AreWholeNumbers greatest text result =
+    MatchOption result
+    (has_wrong_arguments WholeNumbers (arguments_in text) ≡ true)
+    (λ beyond.
+    (beyond ≡ has_argument_beyond greatest WholeNumbers (arguments_in text))
+    × (has_wrong_arguments WholeNumbers (arguments_in text) ≡ false))
 
 -- the questions of a block, by how often it is repeated
 abbrev pub refusals_of_block : {O : Type 0} → Causes → ℕ → Keyword O → ℕ → List (Bool × Cause)
@@ -55,11 +47,11 @@ refusals_of_block causes depth keyword turns =
     ∷ (opens_block keyword && nat_le deepest depth, causes.depth)
     ∷ []
 
--- the questions of numbers and of how many targets there are, which are asked where each target is of its form
-abbrev pub refusals_of_amounts : {O T F : Type 0} → Table O T F → ℕ → Keyword O → Cut → List (Bool × Cause)
-refusals_of_amounts table depth keyword cut =
-    let form = table.target_form keyword in
-    let targets = read_targets table form cut.targets in
-    (has_number_beyond table keyword cut, table.causes.number)
-    ∷ (table.refusals_of_targets form cut.targets targets
-    ++ refusals_of_block table.causes depth keyword (table.turns_of targets))
+-- the questions of the targets that were found in a text, where they could be read, and of the block; `beyond` says whether an
+-- argument is beyond its limit
+abbrev pub refusals_of_read : {O T F : Type 0} → Table O T F → ℕ → Keyword O → Bool → F → List ℕ → Option (List T) → List (Bool × Cause)
+refusals_of_read table depth keyword beyond form text found =
+    let targets = unwrap_or found [] in
+    (is_none found || not (table.are_of_form form targets), table.causes.target)
+    ∷ (beyond || table.has_target_beyond form targets, table.causes.number)
+    ∷ (table.refusals_of_targets form text targets ++ refusals_of_block table.causes depth keyword (table.turns_of targets))

@@ -1,4 +1,4 @@
-use Rattle.std.proofs.Common.{◌≡◌, ◌≤◌, ◌||◌, length}
+use Rattle.std.proofs.Common.{◌≡◌, ◌≤◌, length}
 use Rattle.std.specs.Prelude.{All, max}
 use Rattle.stim_parser.specs.Numbers.{most_qubits}
 use Rattle.circuit_walk.specs.Refusals.{reaches_far}
@@ -6,13 +6,12 @@ use Rattle.circuit_walk.specs.Totals.{qubits_to}
 use Rattle.unroll.specs.private.MadeTotals.{qubits_named}
 use Rattle.unroll.proofs.targets.reach_of.Given as goal
 
-abbrev pub invariant-loop-first : goal.invariant-loop-first
-invariant-loop-first l = record {
+abbrev pub invariant-loop-rest : goal.invariant-loop-rest
+invariant-loop-rest l = record {
   qubits : max l.qubits (qubits_named l.rest) ≡ qubits_named l.targets;
-  few : l.qubits ≤ most_qubits;
   small : All (λ target. qubits_to target ≤ most_qubits) l.rest;
-  far : l.far || reaches_far l.records l.rest ≡ reaches_far l.records l.targets;
+  far : reaches_far l.records l.rest ≡ reaches_far l.records l.targets;
 }
 
-abbrev pub decreases-loop-first : goal.decreases-loop-first
-decreases-loop-first l = length l.rest
+abbrev pub decreases-loop-rest : goal.decreases-loop-rest
+decreases-loop-rest l = length l.rest

@@ -6,7 +6,7 @@ use Rattle.stim_parser.specs.Numbers.{most_qubits}
 use Rattle.circuit_walk.specs.Refusals.{is_before_start, reaches_far}
 use Rattle.circuit_walk.specs.Totals.{qubits_to}
 use Rattle.unroll.specs.private.MadeTotals.{qubits_named}
-use Rattle.unroll.proofs.targets.reach_of.Goals as goal
+use Rattle.unroll.proofs.targets.reach_of_any.Goals as goal
 
 abbrev IsFew : Target → Type 0
 IsFew target = qubits_to target ≤ most_qubits

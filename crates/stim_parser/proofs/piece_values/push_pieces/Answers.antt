@@ -1,15 +1,6 @@
-use Rattle.std.proofs.Common.{ap, sym, ◌∙◌}
-use Rattle.stim_parser.specs.Pieces.{pieces_of}
-use Rattle.stim_parser.specs.Targets.{each_of}
-use Rattle.stim_parser.proofs.PieceValueLemmas.{with_front, with_front-more, with_front-ends, with_front-done, with_front-none}
-use Rattle.stim_parser.proofs.piece_values.read_pieces.Goals as goal
-
-pub loop-piece-init : goal.loop-piece-init
-loop-piece-init g c = (
-  ap (λ front. with_front front (each_of g.V.PieceValue.written (pieces_of c.args.text.now))) c.clear.ensures.targets
-      ∙ with_front-none (each_of g.V.PieceValue.written (pieces_of c.args.text.now)),
-  c.clear.ensures.others,
-)
+use Rattle.std.proofs.Common.{sym, ◌∙◌}
+use Rattle.stim_parser.proofs.PieceValueLemmas.{with_front-more, with_front-ends, with_front-done}
+use Rattle.stim_parser.proofs.piece_values.push_pieces.Goals as goal
 
 pub returns-in_default-of_piece-clause-read : goal.returns-in_default-of_piece-clause-read
 returns-in_default-of_piece-clause-read g c =
