@@ -1,18 +1,19 @@
--- The word that letters at qubits make: letter by letter it is multiplied into a word, or applied to a state.
-use Rattle.std.proofs.Common.{◌≡◌, ℕ, ◌<◌, true, List, [], ◌∷◌, length, set, sym, ap, ap₂, subst, ◌∙◌, arith}
-use Rattle.std.proofs.lemmas.List.Elements.{All-head, All-tail}
+-- The word that letters at qubits make, also as factors: letter by letter it is applied to a state.
+use Rattle.std.proofs.Common.{◌≡◌, ℕ, ◌<◌, true, List, [], ◌∷◌, length, refl, sym, ap, ap₂, subst, ◌∙◌, arith}
+use Rattle.std.proofs.lemmas.List.Elements.{All-head, All-map, All-tail}
 use Rattle.pauli_word.specs.declared.letter.Letter.{Letter}
-use Rattle.pauli_word.specs.Letters.{letter_product}
 use Rattle.pauli_word.specs.Parity.{exclusive_or}
 use Rattle.pauli_word.specs.States.{State, applied}
-use Rattle.pauli_word.specs.Words.{signed, anticommute, letter_at, letters_product, lone_letter, no_letters, with_sign_changed}
-use Rattle.pauli_word.proofs.LoneLetters.{length-lone_letter, letters_product-lone_letter, letters_product_of_no_letters}
+use Rattle.pauli_word.specs.Words.{signed, anticommute, letters_product, lone_letter, no_letters, with_sign_changed}
+use Rattle.pauli_word.proofs.LoneLetters.{length-lone_letter}
 use Rattle.pauli_word.proofs.Parities.{exclusive_or_assoc}
-use Rattle.pauli_word.proofs.WordLaws.{letters_product_assoc, letters_product_comm, anticommute_comm, anticommute_of_none, anticommute-product}
+use Rattle.pauli_word.proofs.WordLaws.{anticommute_comm, anticommute_of_none, anticommute-product}
 use Rattle.step_model.specs.declared.step.Term.{Term}
 use Rattle.step_model.specs.Listing.{word_of_terms}
 use Rattle.step_model.specs.WellFormed.{TermsFit}
 use Rattle.step_model.proofs.StepNumbers.{length-word_of_terms}
+use Rattle.tableau.specs.Products.{AreWithin, word_of_factors}
+use Rattle.forward_sim.specs.private.ProductFactors.{factors_of}
 use Rattle.forward_sim.specs.SameRuns.{HoldSame}
 
 -- the first of the letters that are left, and those behind it
@@ -26,23 +27,13 @@ module _ (n : ℕ) (left : List Term) (term : Term) (rest : List Term) (first : 
   pub fewer : length rest < length left
   fewer = omega (arith, ap length first)
 
--- the word so far, times that of the letters that are left, is the word of all
-abbrev pub IsProductSoFar : ℕ → List Term → List Term → List Letter → Type 0
-IsProductSoFar n left terms w = letters_product w (word_of_terms n left) ≡ word_of_terms n terms
+-- as factors, letters at qubits make the same word
+pub factors_word : (n : ℕ) (terms : List Term) → word_of_factors n (factors_of terms) ≡ word_of_terms n terms
+factors_word n [] = refl
+factors_word n (term ∷ terms) = ap (letters_product (lone_letter n term.qubit term.letter)) (factors_word n terms)
 
-pub product_none : (n : ℕ) (terms : List Term) → IsProductSoFar n terms terms (no_letters n)
-product_none n terms = letters_product_of_no_letters n (word_of_terms n terms) (length-word_of_terms n terms)
-
-pub product_more : (n : ℕ) (term : Term) (rest terms : List Term) (w : List Letter) → length w ≡ n → term.qubit < n → IsProductSoFar n (term ∷ rest) terms w → IsProductSoFar n rest terms (set w term.qubit (letter_product term.letter (letter_at w term.qubit)))
-product_more n term rest terms w size inside so_far =
-    let lone = lone_letter n term.qubit term.letter in
-    ap (λ v. letters_product v (word_of_terms n rest)) (sym (letters_product-lone_letter n w term.qubit term.letter size inside) ∙ letters_product_comm lone w)
-    ∙ letters_product_assoc w lone (word_of_terms n rest)
-    ∙ so_far
-
-pub product_all : (n : ℕ) (terms : List Term) (w : List Letter) → length w ≡ n → IsProductSoFar n [] terms w → w ≡ word_of_terms n terms
-product_all n terms w size so_far =
-    sym (letters_product_comm w (no_letters n) ∙ letters_product_of_no_letters n w size) ∙ so_far
+pub factors_within : (n : ℕ) (terms : List Term) → TermsFit n terms → AreWithin n (factors_of terms)
+factors_within n terms fit = All-map (λ (factor : ℕ × Letter). factor.0 < n) (λ (term : Term). (term.qubit, term.letter)) terms fit
 
 -- the word of the letters that are left leads from here to where it all leads
 abbrev pub AppliesRest : ℕ → List Term → State → State → Type 0

@@ -1,6 +1,7 @@
 pub mod Kept
 pub mod Machines
 pub mod Numbers
+pub mod ProductFactors
 pub mod Said
 pub mod BoundRuns
 pub mod LaneDraws

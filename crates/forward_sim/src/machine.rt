@@ -14,7 +14,7 @@ use crate::records::Records;
 use crate::values::value_at;
 use circuit_walk::Letters;
 use gate_table::Gate;
-use pauli_word::{Letter, Word};
+use pauli_word::Letter;
 use std::alloc::{AllocError, Allocator};
 use std::marker::Model;
 use std::mem;
@@ -28,23 +28,18 @@ const MANY_QUBITS: usize = 256;
 /// What a run holds between two steps. All of its memory is taken before the first step.
 pub(crate) struct Machine<'c, A: Allocator + Copy> {
     pub(crate) tableau: WaitingTableau<A>,
-    // a spare word, for products that are measured
-    pub(crate) word: Word<A>,
     // those of the collapses to come
     coins: &'c [bool],
     records: Vec<bool, A>,
 }
 
 impl<'c, A: Allocator + Copy> Model for Machine<'c, A> {
-    ghost use Rattle.std.specs.Prelude.{◌≡◌, length, vec_capacity};
-    ghost use Rattle.tableau.specs.Rows.{row_count};
+    ghost use Rattle.std.specs.Prelude.{vec_capacity};
     ghost use Rattle.forward_sim.specs.private.Machines.{Running};
 
     ghost Value = { Running };
 
     ghost view = { λ m. record { rows = m.tableau.rows; coins = m.coins.now; records = m.records.items; room = vec_capacity m.records } };
-
-    ghost invariant = { λ m. length m.word.letters ≡ row_count m.tableau.rows };
 }
 
 // Written out, so that it is a call in the proof of each function that owns one.
@@ -52,12 +47,10 @@ impl<A: Allocator + Copy> Drop for Machine<'_, A> {
     fn drop(self) {
         let Machine {
             tableau,
-            word,
             coins: _,
             records,
         } = self;
         drop(tableau);
-        drop(word);
         drop(records);
     }
 }
@@ -109,11 +102,9 @@ impl<'c, A: Allocator + Copy> Machine<'c, A> {
         ensures run { IfOk result (λ m. IsSameRun qubits (run_of m) (start coins.now)) }
     {
         let records = Vec::with_capacity(alloc, records)?;
-        let word = Word::identity(alloc, qubits)?;
         let tableau = WaitingTableau::start(alloc, qubits, turns)?;
         Ok(Machine {
             tableau,
-            word,
             coins,
             records,
         })

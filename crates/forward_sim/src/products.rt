@@ -1,7 +1,6 @@
-ghost use Rattle.std.specs.Prelude.{◌≡◌, false, length, None};
+ghost use Rattle.std.specs.Prelude.{◌≡◌, false, None};
 ghost use Rattle.circuit_walk.specs.Letters.{AreSmall, letters_in};
 ghost use Rattle.pauli_word.specs.States.{outcome};
-ghost use Rattle.pauli_word.specs.Words.{signed};
 ghost use Rattle.step_model.specs.Listing.{word_of_terms};
 ghost use Rattle.step_model.specs.Runs.{after_collapse, next_coin};
 ghost use Rattle.step_model.specs.WellFormed.{TermsFit};
@@ -10,8 +9,9 @@ ghost use Rattle.forward_sim.specs.private.Machines.{ComesTo, qubit_count, run_o
 
 use crate::machine::Machine;
 use circuit_walk::Letters;
-use pauli_word::Word;
+use pauli_word::Letter;
 use std::alloc::Allocator;
+use tableau::Factors;
 
 /// Measures a Pauli product, and answers the outcome. Records nothing.
 pub(crate) fn measure_product<A: Allocator + Copy>(
@@ -29,8 +29,9 @@ pub(crate) fn measure_product<A: Allocator + Copy>(
         false false (run_of machine.old)) }
 {
     let coin = machine.take_coin();
-    set_product(&mut machine.word, letters);
-    machine.tableau.measure_word(&machine.word, coin)
+    machine
+        .tableau
+        .measure_product(ProductLetters { letters }, coin)
 }
 
 /// The row whose stabilizer a measurement of a Pauli product may replace, where its outcome is random.
@@ -44,23 +45,32 @@ pub(crate) fn product_row<A: Allocator + Copy>(
     ensures row { NamesRandom machine.old.rows
         (word_of_terms (qubit_count machine.old) (letters_in letters.entry)) result }
 {
-    set_product(&mut machine.word, letters);
-    machine.tableau.random_row_of_word(&machine.word)
+    machine
+        .tableau
+        .random_row_of_product(ProductLetters { letters })
 }
 
-// Sets a word to the product of letters at qubits, with sign plus.
-fn set_product<A: Allocator + Copy>(word: &mut Word<A>, letters: Letters<'_>)
-    requires small { AreSmall letters }
-    requires fit { TermsFit (length word.old.letters) (letters_in letters) }
-    ensures word { word.new
-        ≡ signed (word_of_terms (length word.old.letters) (letters_in letters.entry)) false }
-    ensures len { length word.new.letters ≡ length word.old.letters }
-{
-    word.clear();
-    let mut left = letters;
-    while let Some((term, rest)) = left.split_first() {
-        let qubit = term.qubit as usize;
-        word.set_letter(qubit, term.letter.times(word.letter(qubit)));
-        left = rest;
+// The letters of a product, as its factors.
+#[derive(Clone, Copy)]
+struct ProductLetters<'c> {
+    letters: Letters<'c>,
+    ghost small: { AreSmall letters },
+}
+
+impl<'c> Factors for ProductLetters<'c> {
+    ghost use Rattle.circuit_walk.specs.Letters.{letters_in};
+    ghost use Rattle.forward_sim.specs.private.ProductFactors.{factors_of};
+
+    ghost factors = { λ product. factors_of (letters_in product.letters) };
+
+    #[inline(always)]
+    fn take_first(&mut self) -> Option<(usize, Letter)> {
+        match self.letters.split_first() {
+            Some((term, rest)) => {
+                *self = ProductLetters { letters: rest };
+                Some((term.qubit as usize, term.letter))
+            }
+            None => None,
+        }
     }
 }

@@ -1,17 +1,16 @@
 -- A product of letters at qubits, letter by letter.
-use Rattle.std.proofs.Common.{◌≡◌, ℕ, ◌<◌, Bool, true, false, List, ◌∷◌, length, refl, sym, ap, ap₂, ◌∙◌}
+use Rattle.std.proofs.Common.{◌≡◌, ℕ, ◌<◌, Bool, true, false, List, [], ◌∷◌, length, refl, sym, ap, ap₂, ◌∙◌}
 use Rattle.std.specs.Prelude.{not}
 use Rattle.std.specs.Bool.{beq}
 use Rattle.pauli_word.specs.declared.letter.Letter.{Letter}
 use Rattle.pauli_word.specs.Letters.{letters_clash}
 use Rattle.pauli_word.specs.Parity.{exclusive_or}
-use Rattle.pauli_word.specs.Words.{anticommute, letter_at, lone_letter, letters_product}
-use Rattle.pauli_word.proofs.LoneLetters.{length-lone_letter}
+use Rattle.pauli_word.specs.Words.{anticommute, letter_at, lone_letter, letters_product, no_letters}
+use Rattle.pauli_word.proofs.LoneLetters.{length-lone_letter, letters_product_of_no_letters}
 use Rattle.pauli_word.proofs.WordLaws.{letters_product_assoc, letters_product_comm, anticommute_comm, anticommute-product}
 use Rattle.step_model.specs.declared.step.Term.{Term}
 use Rattle.step_model.specs.Listing.{word_of_terms}
 use Rattle.step_model.proofs.StepNumbers.{length-word_of_terms}
-use Rattle.forward_sim.proofs.TermWords.{IsProductSoFar}
 use Rattle.run_laws.proofs.ShiftWords.{anticommute-lone}
 
 -- a word meets the first letter, and then those that are left
@@ -25,6 +24,17 @@ anticommute-term n w term terms size inside =
     ∙ ap₂ exclusive_or
     (anticommute_comm lone w ∙ anticommute-lone w n term.qubit term.letter size inside)
     (anticommute_comm rest w))
+
+-- the word so far, times that of the letters that are left, is the word of all
+abbrev pub IsProductSoFar : ℕ → List Term → List Term → List Letter → Type 0
+IsProductSoFar n left terms w = letters_product w (word_of_terms n left) ≡ word_of_terms n terms
+
+pub product_none : (n : ℕ) (terms : List Term) → IsProductSoFar n terms terms (no_letters n)
+product_none n terms = letters_product_of_no_letters n (word_of_terms n terms) (length-word_of_terms n terms)
+
+pub product_all : (n : ℕ) (terms : List Term) (w : List Letter) → length w ≡ n → IsProductSoFar n [] terms w → w ≡ word_of_terms n terms
+product_all n terms w size so_far =
+    sym (letters_product_comm w (no_letters n) ∙ letters_product_of_no_letters n w size) ∙ so_far
 
 -- the first letter goes from the word that is left into the word so far
 pub product_on : (n : ℕ) (term : Term) (rest terms : List Term) (w : List Letter) → IsProductSoFar n (term ∷ rest) terms w

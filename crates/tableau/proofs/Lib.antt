@@ -4,11 +4,13 @@ pub mod DecodingLaws
 pub mod DiagonalWords
 pub mod EncodingCollapse
 pub mod EncodingGates
+pub mod FirstFactors
 pub mod FirstLetters
 pub mod KeptRows
 pub mod LettersPut
 pub mod LoneWords
 pub mod PairWords
+pub mod ProductCodes
 pub mod PauliGates
 pub mod PivotLetters
 pub mod RandomCollapse

@@ -107,7 +107,7 @@ pub(crate) fn sign_seen<A: Allocator + Copy>(pair: &Pair<A>, letter: Letter) -> 
     }
 }
 
-fn diagonal_sign<A: Allocator + Copy>(word: &Word<A>) -> Option<bool>
+pub(crate) fn diagonal_sign<A: Allocator + Copy>(word: &Word<A>) -> Option<bool>
     ensures { IfSome result (IsDiagonal word.now) }
 {
     match word.lowest_x_or_y() {

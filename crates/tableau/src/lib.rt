@@ -9,7 +9,9 @@ mod decode;
 mod gates;
 mod measure;
 mod pairs;
+mod products;
 mod tableau;
 mod waiting_turns;
 
+pub use products::Factors;
 pub use tableau::{Tableau, WaitingTableau, laws};

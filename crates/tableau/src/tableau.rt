@@ -5,18 +5,20 @@ ghost use Rattle.pauli_word.specs.States.{start_state, applied, collapsed, corre
 ghost use Rattle.pauli_word.specs.declared.letter.Letter.TheVariants.{X, Z};
 ghost use Rattle.pauli_word.specs.Letters.{letters_clash};
 ghost use Rattle.pauli_word.specs.Words.{letter_at, lone_letter, signed};
+ghost use Rattle.tableau.specs.Products.{AreWithin, word_of_factors};
 ghost use Rattle.tableau.specs.Rows.{row_count, state_of, stabilizer_at, destabilizer_at, HasState, NamesRandom, IsCollapsed};
 ghost use Rattle.tableau.specs.private.Waiting.{outcome_by, turned_by, turns_by, AreTurns, IsSized, Measures};
 
 pub mod laws;
 mod waiting;
 
-use crate::codes::{encode, encode_letter, set_code, sign_seen};
+use crate::codes::{diagonal_sign, encode, encode_letter, set_code, sign_seen};
 use crate::collapse::collapse_code;
 use crate::decode::{decode, stabilizer_clashes};
 use crate::gates::{apply_letters, apply_one, apply_two};
 use crate::measure::{measure_code, measure_letter, set_turn};
 use crate::pairs::{Pair, identity_pair, replace, restart_pairs, set_word, start_pairs};
+use crate::products::{Factors, encode_product, set_product};
 use crate::waiting_turns::{Origin, Turn, seems_dense, turn_pair_by_all, turn_rows_by_all};
 use gate_table::Gate;
 use pauli_word::{Letter, Word};
@@ -195,6 +197,17 @@ impl<A: Allocator + Copy> Tableau<A> {
         self.first.0.lowest_x_or_y()
     }
 
+    /// The same for a product.
+    pub fn random_row_of_product<F: Factors>(&mut self, factors: F) -> Option<usize>
+        requires { AreWithin (row_count self.old) (F.factors factors) }
+        ensures same { self.new ≡ self.old }
+        ensures row { NamesRandom self.old
+            (word_of_factors (row_count self.old) (F.factors factors)) result }
+    {
+        encode_product(&self.rows, factors, &mut self.second, &mut self.first);
+        self.first.0.lowest_x_or_y()
+    }
+
     /// Measures a letter at a qubit, and answers the outcome: faster than `collapse`, which names a row.
     pub fn measure(&mut self, letter: Letter, qubit: usize, coin: bool) -> bool
         requires { qubit < row_count self.old }
@@ -220,6 +233,26 @@ impl<A: Allocator + Copy> Tableau<A> {
     {
         encode(&self.rows, word, &mut self.first);
         measure_code(&mut self.rows, word, &mut self.first, coin)
+    }
+
+    /// Measures a product as if its sign were plus, and answers the outcome.
+    #[inline(always)]
+    pub fn measure_product<F: Factors>(&mut self, factors: F, coin: bool) -> bool
+        requires { AreWithin (row_count self.old) (F.factors factors) }
+        ensures len { row_count self.new ≡ row_count self.old }
+        ensures outcome { result
+            ≡ outcome (state_of self.old)
+            (word_of_factors (row_count self.old) (F.factors factors)) coin }
+        ensures state { HasState self.new
+            (collapsed (word_of_factors (row_count self.old) (F.factors factors)) coin
+            (state_of self.old)) }
+    {
+        encode_product(&self.rows, factors, &mut self.second, &mut self.first);
+        if let Some(outcome) = diagonal_sign(&self.first.0) {
+            return outcome;
+        }
+        set_product(&mut self.second.0, factors);
+        measure_code(&mut self.rows, &self.second.0, &mut self.first, coin)
     }
 
     /// Ends the reset of a qubit whose letter was measured: where the outcome is 1, applies the letter that turns it

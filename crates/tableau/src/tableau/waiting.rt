@@ -4,10 +4,12 @@ ghost use Rattle.gate_table.specs.Images.{arity_of};
 ghost use Rattle.gate_table.specs.WordImages.{preimage_at, preimage_at_two};
 ghost use Rattle.pauli_word.specs.States.{start_state, applied, collapsed, correcting, outcome};
 ghost use Rattle.pauli_word.specs.Words.{lone_letter};
+ghost use Rattle.tableau.specs.Products.{AreWithin, word_of_factors};
 ghost use Rattle.tableau.specs.Rows.{row_count, state_of, HasState, NamesRandom};
 ghost use Rattle.tableau.specs.private.Waiting.{awaited, SeesAtOnce, Waits};
 
 use super::Tableau;
+use crate::products::Factors;
 use crate::waiting_turns::{Turn, identity_turns};
 use gate_table::Gate;
 use pauli_word::{Letter, Word};
@@ -132,6 +134,17 @@ impl<A: Allocator + Copy> WaitingTableau<A> {
         self.tableau.random_row_of_word(word)
     }
 
+    /// The same for a product.
+    pub fn random_row_of_product<F: Factors>(&mut self, factors: F) -> Option<usize>
+        requires { AreWithin (row_count self.old.rows) (F.factors factors) }
+        ensures same { self.new.rows ≡ self.old.rows }
+        ensures row { NamesRandom self.old.rows
+            (word_of_factors (row_count self.old.rows) (F.factors factors)) result }
+    {
+        settle(&mut self.tableau, self.turns.as_slice(), &mut self.waiting);
+        self.tableau.random_row_of_product(factors)
+    }
+
     /// Measures a letter at a qubit, and answers the outcome. Where that is random, the turn of the measurement waits.
     #[inline(always)]
     pub fn measure(&mut self, letter: Letter, qubit: usize, coin: bool) -> bool
@@ -191,6 +204,22 @@ impl<A: Allocator + Copy> WaitingTableau<A> {
     {
         settle(&mut self.tableau, self.turns.as_slice(), &mut self.waiting);
         self.tableau.measure_word(word, coin)
+    }
+
+    /// Measures a product as if its sign were plus, and answers the outcome.
+    #[inline(always)]
+    pub fn measure_product<F: Factors>(&mut self, factors: F, coin: bool) -> bool
+        requires { AreWithin (row_count self.old.rows) (F.factors factors) }
+        ensures len { row_count self.new.rows ≡ row_count self.old.rows }
+        ensures outcome { result
+            ≡ outcome (state_of self.old.rows)
+            (word_of_factors (row_count self.old.rows) (F.factors factors)) coin }
+        ensures state { HasState self.new.rows
+            (collapsed (word_of_factors (row_count self.old.rows) (F.factors factors)) coin
+            (state_of self.old.rows)) }
+    {
+        settle(&mut self.tableau, self.turns.as_slice(), &mut self.waiting);
+        self.tableau.measure_product(factors, coin)
     }
 
     /// Ends the reset of a qubit whose letter was measured: where the outcome is 1, applies the letter that turns it

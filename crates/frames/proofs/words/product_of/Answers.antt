@@ -7,8 +7,8 @@ use Rattle.pauli_word.specs.Words.{Signed, letters_product, lone_letter}
 use Rattle.pauli_word.proofs.LoneLetters.{length-lone_letter}
 use Rattle.pauli_word.proofs.WordLaws.{length-letters_product}
 use Rattle.step_model.specs.Listing.{word_of_terms}
-use Rattle.forward_sim.proofs.TermWords.{IsProductSoFar, fewer, first_fits, product_all, product_none, rest_fits}
-use Rattle.frames.proofs.TermWords.{product_on}
+use Rattle.forward_sim.proofs.TermWords.{fewer, first_fits, rest_fits}
+use Rattle.frames.proofs.TermWords.{IsProductSoFar, product_all, product_none, product_on}
 use Rattle.frames.proofs.words.product_of.Goals as goal
 
 pub loop-term-init : goal.loop-term-init

@@ -1,7 +1,7 @@
 use Rattle.std.proofs.Common.{◌≡◌, length}
 use Rattle.circuit_walk.specs.Letters.{AreSmall, letters_in}
 use Rattle.step_model.specs.WellFormed.{TermsFit}
-use Rattle.forward_sim.proofs.TermWords.{IsProductSoFar}
+use Rattle.frames.proofs.TermWords.{IsProductSoFar}
 use Rattle.frames.proofs.words.product_of.Given as goal
 
 -- the word so far, times that of the letters that are left, is the word of all
