@@ -10,7 +10,6 @@ use crate::faults::note_flip;
 use crate::found::Found;
 use crate::letters::{FEW_LETTERS, NO_LETTER, terms_of};
 use crate::line_store::LineStore;
-use crate::point::Point;
 use circuit_walk::{FaultName, Letters, Program};
 use record_targets::target_count;
 use std::alloc::{AllocError, Allocator};
@@ -21,57 +20,50 @@ use trackers::Tracker;
 /// Goes back over a collapse of a product of letters: judges it, puts the line of the fault that flips its record, and
 /// takes the words back.
 #[inline(always)]
-pub(crate) fn collapse<'s, 'p, 'a, A: Allocator + Copy, T: Tracker, L: LineStore>(
+pub(crate) fn collapse<'s, 'a, A: Allocator + Copy, T: Tracker, L: LineStore>(
     program: &Program<'a, A>,
     terms: &[Term],
     reset: Option<u32>,
     rec: Option<u32>,
     flip: Option<FaultName>,
-    at: &mut Point<'p, 'a, A, T>,
+    place: usize,
+    tracker: &mut T,
     found: &mut Found<'s, A>,
     lines: &mut L,
 ) -> Result<(), AllocError>
-    requires step { IsCollapseAt program.now at.old.walk.place terms.now reset rec flip }
+    requires step { IsCollapseAt program.now place terms.now reset rec flip }
     requires store { L.program lines.old ≡ program.now }
-    requires passed { IsPassed program.now.listing (at.old.walk.place + 1)
-        (T.tracked at.old.tracker) found.old }
-    ensures { IsGoneOver T.tracked L.program L.holds program.now.listing at.old at.new found.old
+    requires passed { IsPassed program.now.listing (place + 1) (T.tracked tracker.old) found.old }
+    ensures { IsGoneOver T.tracked L.program L.holds program.now.listing place tracker.new found.old
         found.new lines.old lines.new result }
 {
+    // The place is only spoken of.
+    let _place = place;
     program.well_formed();
     let targets = target_count(program);
-    found.judge(targets, terms, &mut at.tracker)?;
-    take_back(
-        program,
-        terms,
-        reset,
-        rec,
-        flip,
-        &mut at.tracker,
-        found,
-        lines,
-    )?;
+    found.judge(targets, terms, tracker)?;
+    take_back(program, terms, reset, rec, flip, tracker, found, lines)?;
     found.let_go(rec);
     Ok(())
 }
 
 /// The same of a product that a step lends.
 #[inline(never)]
-pub(crate) fn collapse_word<'s, 'p, 'a, A: Allocator + Copy, T: Tracker, L: LineStore>(
+pub(crate) fn collapse_word<'s, 'a, A: Allocator + Copy, T: Tracker, L: LineStore>(
     program: &Program<'a, A>,
     letters: Letters<'_>,
     rec: Option<u32>,
     flip: Option<FaultName>,
-    at: &mut Point<'p, 'a, A, T>,
+    place: usize,
+    tracker: &mut T,
     found: &mut Found<'s, A>,
     lines: &mut L,
 ) -> Result<(), AllocError>
     requires small { AreSmall letters }
-    requires step { IsCollapseAt program.now at.old.walk.place (letters_in letters) None rec flip }
+    requires step { IsCollapseAt program.now place (letters_in letters) None rec flip }
     requires store { L.program lines.old ≡ program.now }
-    requires passed { IsPassed program.now.listing (at.old.walk.place + 1)
-        (T.tracked at.old.tracker) found.old }
-    ensures { IsGoneOver T.tracked L.program L.holds program.now.listing at.old at.new found.old
+    requires passed { IsPassed program.now.listing (place + 1) (T.tracked tracker.old) found.old }
+    ensures { IsGoneOver T.tracked L.program L.holds program.now.listing place tracker.new found.old
         found.new lines.old lines.new result }
 {
     let mut few = [NO_LETTER; FEW_LETTERS];
@@ -79,7 +71,9 @@ pub(crate) fn collapse_word<'s, 'p, 'a, A: Allocator + Copy, T: Tracker, L: Line
     let mut many = Vec::new(*found.alloc);
     mem::swap(&mut many, &mut found.terms);
     let terms = terms_of(letters, &mut few, &mut many)?;
-    collapse(program, terms, None, rec, flip, at, found, lines)?;
+    collapse(
+        program, terms, None, rec, flip, place, tracker, found, lines,
+    )?;
     found.terms = many;
     Ok(())
 }

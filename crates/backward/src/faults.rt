@@ -7,18 +7,17 @@ ghost use Rattle.circuit_walk.specs.Letters.{AreSmall, letters_in};
 ghost use Rattle.circuit_walk.specs.Named.{IsStepOf};
 ghost use Rattle.circuit_walk.specs.declared.step.Step.TheVariants as step;
 ghost use Rattle.backward.specs.private.Passes.{IsPassed, IsStepAt};
-ghost use Rattle.backward.specs.private.Steps.{AreGoneOver, IsGoneOver, StandsBefore};
+ghost use Rattle.backward.specs.private.Steps.{IsGoneOver};
 ghost use Rattle.backward.specs.private.Stretches.{Gives, flip_line, line_for};
 ghost use Rattle.trackers.specs.Tracked.{anticommuting};
 
 use crate::found::Found;
 use crate::letters::{FEW_LETTERS, NO_LETTER, lone_letter, terms_of};
 use crate::line_store::LineStore;
-use crate::point::Point;
 use circuit_walk::{FaultName, Letters, Program};
 use std::alloc::{AllocError, Allocator};
 use step_model::Term;
-use trackers::{FEW, Tracker};
+use trackers::Tracker;
 
 /// Gives the line of the fault that flips a record, where there is one.
 pub(crate) fn note_flip<'a, A: Allocator + Copy, L: LineStore>(
@@ -113,8 +112,7 @@ fn fault<'a, A: Allocator + Copy, T: Tracker, L: LineStore>(
     note_listed(program, chance, terms, tracker, hit, lines)
 }
 
-// The same where the targets are put into a buffer, where they are few into a short one. By a call, so that the loop over a run
-// of faults is short.
+// The same where the targets are put into a buffer. By a call, so that the loop over errors of one letter is short.
 #[inline(never)]
 fn note_listed<'a, A: Allocator + Copy, T: Tracker, L: LineStore>(
     program: &Program<'a, A>,
@@ -136,10 +134,6 @@ fn note_listed<'a, A: Allocator + Copy, T: Tracker, L: LineStore>(
         (anticommuting terms.now (T.tracked tracker.old)))) }
     ensures store { L.program lines.new ≡ L.program lines.old }
 {
-    let mut few = [0; FEW];
-    if let Some(count) = tracker.few_hit(terms, &mut few) {
-        return note_reversed(chance, &few[..count], lines);
-    }
     tracker.hit(terms, hit)?;
     note_line(program, chance, hit.as_slice(), lines)
 }
@@ -174,22 +168,22 @@ fn fault_of_many<'a, A: Allocator + Copy, T: Tracker, L: LineStore>(
     fault(program, chance, terms, tracker, hit, lines)
 }
 
-// Goes back over a fault: gives its line.
+/// Goes back over a fault: gives its line.
 #[inline(always)]
-fn fault_back<'s, 'p, 'a, A: Allocator + Copy, T: Tracker, L: LineStore>(
+pub(crate) fn fault_back<'s, 'a, A: Allocator + Copy, T: Tracker, L: LineStore>(
     program: &Program<'a, A>,
     name: FaultName,
     letters: Letters<'_>,
-    at: &mut Point<'p, 'a, A, T>,
+    place: usize,
+    tracker: &mut T,
     found: &mut Found<'s, A>,
     lines: &mut L,
 ) -> Result<(), AllocError>
-    requires step { IsStepAt program.now.listing at.old.walk.place (Fault name.number) }
+    requires step { IsStepAt program.now.listing place (Fault name.number) }
     requires named { IsStepOf program.now (step.Fault name letters) }
     requires store { L.program lines.old ≡ program.now }
-    requires passed { IsPassed program.now.listing (at.old.walk.place + 1)
-        (T.tracked at.old.tracker) found.old }
-    ensures { IsGoneOver T.tracked L.program L.holds program.now.listing at.old at.new found.old
+    requires passed { IsPassed program.now.listing (place + 1) (T.tracked tracker.old) found.old }
+    ensures { IsGoneOver T.tracked L.program L.holds program.now.listing place tracker.new found.old
         found.new lines.old lines.new result }
 {
     match lone_letter(letters) {
@@ -197,48 +191,46 @@ fn fault_back<'s, 'p, 'a, A: Allocator + Copy, T: Tracker, L: LineStore>(
             program,
             name.chance,
             &[term],
-            &mut at.tracker,
+            tracker,
             &mut found.hit,
             lines,
         ),
+        None => fault_of_more(program, name, letters, place, tracker, found, lines),
+    }
+}
+
+// The same of more letters than one: mostly of two. By a call, so that the loop over errors of one letter is short.
+#[inline(never)]
+fn fault_of_more<'s, 'a, A: Allocator + Copy, T: Tracker, L: LineStore>(
+    program: &Program<'a, A>,
+    name: FaultName,
+    letters: Letters<'_>,
+    place: usize,
+    tracker: &mut T,
+    found: &mut Found<'s, A>,
+    lines: &mut L,
+) -> Result<(), AllocError>
+    requires step { IsStepAt program.now.listing place (Fault name.number) }
+    requires named { IsStepOf program.now (step.Fault name letters) }
+    requires store { L.program lines.old ≡ program.now }
+    requires passed { IsPassed program.now.listing (place + 1) (T.tracked tracker.old) found.old }
+    ensures { IsGoneOver T.tracked L.program L.holds program.now.listing place tracker.new found.old
+        found.new lines.old lines.new result }
+{
+    // The place is only spoken of.
+    let _place = place;
+    let chance = name.chance;
+    let hit = &mut found.hit;
+    match letters.both() {
+        Some((first, second)) => fault(program, chance, &[first, second], tracker, hit, lines),
         None => fault_of_many(
             program,
-            name.chance,
+            chance,
             letters,
-            &mut at.tracker,
-            &mut found.hit,
+            tracker,
+            hit,
             &mut found.terms,
             lines,
         ),
     }
-}
-
-/// Goes back over a fault, which the walk has gone back over already, and over the faults right before it, to a place at
-/// most. Most steps of a noisy circuit are faults in runs, so these have a loop of their own.
-#[inline(never)]
-pub(crate) fn faults_back<'s, 'p, 'a, A: Allocator + Copy, T: Tracker, L: LineStore>(
-    program: &Program<'a, A>,
-    last: FaultName,
-    letters: Letters<'p>,
-    to: usize,
-    at: &mut Point<'p, 'a, A, T>,
-    found: &mut Found<'s, A>,
-    lines: &mut L,
-) -> Result<(), AllocError>
-    requires before { StandsBefore T.tracked L.program program.now to (Fault last.number) at.old
-        found.old lines.old }
-    requires named { IsStepOf program.now (step.Fault last letters) }
-    ensures { AreGoneOver T.tracked L.program L.holds program.now.listing to
-        (at.old.walk.place + 1) at.old at.new found.old found.new lines.old lines.new result }
-{
-    let mut left = Some((last, letters));
-    while let Some((name, letters)) = left {
-        fault_back(program, name, letters, at, found, lines)?;
-        left = if at.walk.place() > to {
-            at.walk.previous_fault()
-        } else {
-            None
-        };
-    }
-    Ok(())
 }

@@ -7,10 +7,10 @@ ghost use Rattle.backward.specs.private.Turns.{AreKept, ArePassed};
 
 use crate::found::Found;
 use crate::line_store::NoLines;
-use crate::pass::go_over;
+use crate::pass::steps_back;
 use crate::point::{KeptPoint, Point};
 use crate::turns::{KeptTurns, Looks, pass_turns};
-use circuit_walk::{Program, Step};
+use circuit_walk::Program;
 use std::alloc::{AllocError, Allocator};
 use trackers::Tracker;
 
@@ -148,8 +148,8 @@ fn back_over<'s, 'p, 'a, A: Allocator + Copy, T: Tracker>(
     }
 }
 
-// Goes back over the step before a point, and where it is a fault over the faults right before it, to a place at most.
-// Faults change nothing where no lines are found.
+// Goes back over the faults before a point and over steps of the instruction before them: over one step at least, and to a place
+// at most. Faults change nothing where no lines are found.
 #[inline(always)]
 fn back_without_lines<'s, 'p, 'a, A: Allocator + Copy, T: Tracker>(
     program: &Program<'a, A>,
@@ -168,14 +168,11 @@ fn back_without_lines<'s, 'p, 'a, A: Allocator + Copy, T: Tracker>(
         (IsPassed program.now.listing at.new.walk.place (T.tracked at.new.tracker) found.new) }
     ensures stays { Stays found.old found.new }
 {
-    match at.walk.previous_step() {
-        Some(Step::Fault { .. }) => {
-            at.walk.pass_faults_back(to);
-            Ok(())
-        }
-        Some(step) => go_over(program, step, to, at, found, &mut NoLines { program }),
-        None => Ok(()),
+    at.walk.pass_faults_back(to);
+    if at.walk.place() == to {
+        return Ok(());
     }
+    steps_back(program, to, at, found, &mut NoLines { program })
 }
 
 // How far apart points are left on a way of this many steps, at least, where the words of one take so many bytes.

@@ -45,6 +45,7 @@ pub mod TurnCounts
 pub mod TurnCourses
 pub mod TurnRepeats
 pub mod TwiceInLists
+pub mod Undoings
 pub mod WellFormedPrograms
 pub mod WithinLimits
 pub mod WordsApart

@@ -128,7 +128,7 @@ some_passed stands program old new place later at facing gone same on end done =
 
 -- ---- instructions that make no steps
 
-no_end : (o : Operation) (ts : List Target) → makes_steps o ≡ false → end_of o ts ≡ 0
+pub no_end : (o : Operation) (ts : List Target) → makes_steps o ≡ false → end_of o ts ≡ 0
 no_end (Applies g) ts h = cc
 no_end (Measurement l) ts h = cc
 no_end (QubitReset l) ts h = cc

@@ -18,5 +18,6 @@ pub mod Targets
 pub mod TargetsMade
 pub mod Totals
 pub mod Turns
+pub mod Undoers
 pub mod Walks
 pub mod private

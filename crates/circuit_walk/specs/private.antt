@@ -7,4 +7,5 @@ pub mod Placing
 pub mod Taken
 pub mod Takings
 pub mod Turns
+pub mod Undoings
 pub mod Walks

@@ -1,15 +1,12 @@
 //! The course of a walk: over the instructions that make steps, and over the steps of each.
 
-ghost use Rattle.std.specs.Prelude.{◌≡◌, ◌≢◌, ◌+◌, ◌-◌, ◌<◌, ◌≤◌, ◌==◌, ℕ, None, Some, false, true, if◌then◌else◌, length, nat_lt, option_map, slice_get, slice_index_or, IfSome};
+ghost use Rattle.std.specs.Prelude.{◌≡◌, ◌≢◌, ◌+◌, ◌-◌, ◌<◌, ◌≤◌, ◌==◌, None, Some, false, true, if◌then◌else◌, length, nat_lt, option_map, slice_get, IfSome};
 ghost use Rattle.circuit_walk.specs.Named.{IsStepOf};
 ghost use Rattle.circuit_walk.specs.Programs.{KeptProgram};
 ghost use Rattle.circuit_walk.specs.Steps.{listed};
 ghost use Rattle.circuit_walk.specs.private.Courses.{IsCourse, moves_ahead, moves_behind};
 ghost use Rattle.circuit_walk.specs.private.Held.{Holds};
-ghost use Rattle.circuit_walk.specs.private.InstructionSteps.{AreStepsOf};
-ghost use Rattle.stim_lexer.specs.Trees.{InstructionLine};
-ghost use Rattle.stim_parser.specs.Circuits.{Fits};
-ghost use Rattle.stim_parser.specs.Verdicts.{Instruction};
+ghost use Rattle.circuit_walk.specs.private.Taken.{IsFacing};
 
 use crate::choice::StepMakers;
 use crate::instruction_steps::InstructionSteps;
@@ -17,7 +14,6 @@ use crate::program::Text;
 use crate::step::{Counts, Step};
 use cursor::Cursor;
 use std::alloc::Allocator;
-use stim_lexer::Item;
 use stim_parser::{Operation, TargetWord};
 
 /// A place among the steps of a text: before an instruction, if `inside` is so, and behind some of its steps, or else between
@@ -223,12 +219,26 @@ impl<'a, 'p, A: Allocator + Copy> Course<'a, 'p, A> {
         ensures named { (program : KeptProgram) → IsCourse program self.old → IsStepOf program result }
         ensures place { self.old.steps ≡ self.new.steps + 1 }
     {
-        let at = self.here.place_before();
-        self.here.at = at;
-        self.counts = self.here.counts_before(self.counts);
+        self.step_back(self.here.operation);
+        self.here.next(self.counts).step
+    }
+
+    /// Goes back over the step that stands right before the place, of an instruction of this operation.
+    #[inline(always)]
+    pub(crate) fn step_back(&mut self, operation: Operation)
+        requires course { (program : KeptProgram) × IsCourse program self.old }
+        requires facing { 0 < self.old.here.at }
+        requires operation { self.old.here.operation ≡ operation }
+        ensures course { (program : KeptProgram) → IsCourse program self.old → IsCourse program self.new }
+        ensures facing { self.new.here.at ≢ self.new.here.end }
+        ensures next { IsFacing self.new.here self.new.counts }
+        ensures place { self.old.steps ≡ self.new.steps + 1 }
+        ensures same { self.new.here.operation ≡ self.old.here.operation }
+    {
+        self.here.at = self.here.place_before(operation);
+        self.counts = self.here.counts_before(operation, self.counts);
         self.steps -= 1;
         self.text.fits();
-        self.here.next(self.counts).step
     }
 
     /// Answers the step after the place and goes over it; none at the end, where the place stays.

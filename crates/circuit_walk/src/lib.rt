@@ -26,10 +26,12 @@ mod products;
 mod program;
 mod step;
 mod step_taker;
+mod step_undoer;
 mod steps_back;
 mod taken;
 mod turn_course;
 mod turns;
+mod undoing;
 mod walk;
 
 pub use coordinate_taker::CoordinateTaker;
@@ -46,4 +48,5 @@ pub use passes::take_all;
 pub use program::{Parts, Program, Totals};
 pub use step::{Counts, FaultName, Step};
 pub use step_taker::StepTaker;
+pub use step_undoer::StepUndoer;
 pub use walk::Walk;

@@ -39,32 +39,34 @@ fn makes_faults(operation: Operation, flips: &MayFlip<'_>) -> bool
 }
 
 impl<'c> InstructionSteps<'c> {
-    /// The place before the step that stands before the place.
+    /// The place before the step that stands before the place, of an instruction of this operation.
     #[inline(always)]
-    pub(crate) fn place_before(&self) -> usize
+    pub(crate) fn place_before(&self, operation: Operation) -> usize
+        requires operation { self.now.operation ≡ operation }
         requires stands { (i : Instruction) × (k : ℕ) × AreStepsOf i self.now
             × IsAt i.operation i.targets self.now.at k }
         requires there { 0 < self.now.at }
         ensures place { (k : ℕ) (i : Instruction) → AreStepsOf i self.now → IsAt i.operation i.targets self.now.at (k + 1)
             → IsAt i.operation i.targets result k }
     {
-        match self.operation {
+        match operation {
             Operation::Applies(gate) => self.at - gate.arity() as usize,
             Operation::ProductMeasurement => product_before(self.targets, self.at),
             _ => self.at - 1,
         }
     }
 
-    /// The counts before a step, from those behind it.
+    /// The counts before a step of this operation, from those behind it.
     #[inline(always)]
-    pub(crate) fn counts_before(&self, counts: Counts) -> Counts
-        requires { (before : Counts) × (counts ≡ counts_behind self.now.operation self.now.flips before) }
+    pub(crate) fn counts_before(&self, operation: Operation, counts: Counts) -> Counts
+        requires operation { self.now.operation ≡ operation }
+        requires behind { (before : Counts) × (counts ≡ counts_behind self.now.operation self.now.flips before) }
         ensures { (before : Counts) → counts ≡ counts_behind self.now.operation self.now.flips before → result ≡ before }
     {
         Counts {
-            records: counts.records - makes_records(self.operation) as u32,
-            collapses: counts.collapses - makes_collapses(self.operation) as u32,
-            faults: counts.faults - makes_faults(self.operation, &self.flips) as u32,
+            records: counts.records - makes_records(operation) as u32,
+            collapses: counts.collapses - makes_collapses(operation) as u32,
+            faults: counts.faults - makes_faults(operation, &self.flips) as u32,
         }
     }
 }

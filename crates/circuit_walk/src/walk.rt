@@ -1,18 +1,17 @@
 //! A walk over the steps of a program, forward and back. It takes no memory.
 
-ghost use Rattle.std.specs.Prelude.{◌≡◌, ◌+◌, ◌-◌, ◌<◌, ◌≤◌, ◌==◌, ℕ, Some, false, true, if◌then◌else◌, IfSome, None, length, nat_lt, option_map, slice_get, take};
+ghost use Rattle.std.specs.Prelude.{◌≡◌, ◌+◌, ◌-◌, ◌<◌, ◌≤◌, ◌==◌, ℕ, false, true, if◌then◌else◌, IfSome, None, length, nat_lt, option_map, slice_get, take};
 ghost use Rattle.circuit_walk.specs.Named.{IsStepOf};
 ghost use Rattle.circuit_walk.specs.Steps.{listed};
+ghost use Rattle.circuit_walk.specs.Undoers.{IsBackAt};
 ghost use Rattle.circuit_walk.specs.Walks.{PassesBack, is_fault};
-ghost use Rattle.circuit_walk.specs.declared.step.Step.TheVariants as step;
-ghost use Rattle.step_model.specs.Listing.{Fault};
 ghost use Rattle.step_model.specs.WellFormed.{collapse_count, faults_named, records_made};
 
 use crate::course::Course;
-use crate::letters::Letters;
 use crate::program::Program;
-use crate::step::{FaultName, Step};
-use std::alloc::Allocator;
+use crate::step::Step;
+use crate::step_undoer::StepUndoer;
+use std::alloc::{AllocError, Allocator};
 use std::marker::Model;
 
 /// A walk over the steps of a program, in the order in which they are reached.
@@ -129,23 +128,23 @@ impl<'a, 'p, A: Allocator + Copy> Walk<'a, 'p, A> {
         self.course.previous()
     }
 
-    /// Answers the fault before the place with the letters that it applies, and goes back over it. None where the step before
-    /// is no fault, or at the start: then no step is gone back over.
+    /// Goes back over steps of one instruction, which an undoer undoes: over one at least, and to the place `to` at most. Each
+    /// operation has a way of its own. It fails only where the undoer does.
     #[inline(always)]
-    pub fn previous_fault(&mut self) -> Option<(FaultName, Letters<'a>)>
-        ensures fault { IfSome result (λ fault. slice_get self.old.program.listing.steps
-            (self.old.place - 1)
-            ≡ Some (Fault fault.0.number)) }
-        ensures named { IfSome result
-            (λ fault. IsStepOf self.old.program (step.Fault fault.0 fault.1)) }
-        ensures none { result ≡ None
-            → 0 < self.old.place
-            → is_fault (slice_get self.old.program.listing.steps (self.old.place - 1)) ≡ false }
+    pub fn undo_some<U: StepUndoer<A>>(
+        &mut self,
+        to: usize,
+        undoer: &mut U,
+    ) -> Result<(), AllocError>
+        requires to { to < self.old.place }
+        requires stands { U.stands self.old.program undoer.old self.old.place undoer.old }
         ensures program { self.new.program ≡ self.old.program }
-        ensures back { IfSome result (λ fault. self.new.place + 1 ≡ self.old.place) }
-        ensures stays { result ≡ None → self.new.place ≡ self.old.place }
+        ensures above { to ≤ self.new.place }
+        ensures below { self.new.place < self.old.place }
+        ensures undone { IsBackAt U.stands U.lasts self.old.program undoer.old self.new.place
+            undoer.new result }
     {
-        self.course.previous_fault()
+        self.course.undo_some(self.program, to, undoer)
     }
 
     /// Goes back over the faults that stand right before the place, to `from` at most.

@@ -6,7 +6,7 @@ use gate_table::Gate;
 use pauli_word::Letter;
 use std::alloc::{AllocError, Allocator};
 use step_model::Term;
-use trackers::{FEW, Tracker};
+use trackers::Tracker;
 
 /// How many letters the words may have at a time. A surface code has some ten for each qubit. What is kept of them along the way
 /// is up to 25 times as much.
@@ -147,9 +147,5 @@ impl<'n, T: Tracker> Tracker for Limited<'n, T> {
 
     fn letters_at(&self, q: usize) -> usize {
         self.tracker.letters_at(q)
-    }
-
-    fn few_hit(&self, terms: &[Term], hit: &mut [u32; FEW]) -> Option<usize> {
-        self.tracker.few_hit(terms, hit)
     }
 }

@@ -81,7 +81,7 @@ pub(crate) fn list_hit<S: TargetSet, B: Allocator + Copy>(
 /// Puts the targets whose words anticommute with the product of two letters at the start of `sum`, from the greatest down,
 /// and answers how many these are, where it does: it need not.
 #[inline(never)]
-pub(crate) fn sum_both<S: TargetSet>(
+fn sum_both<S: TargetSet>(
     columns: &[Column<S>],
     first: &Term,
     second: &Term,

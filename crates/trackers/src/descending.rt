@@ -6,7 +6,7 @@ use smallvec::SmallVec;
 use std::alloc::{AllocError, Allocator};
 
 /// Two lists are short where they have at most this many together.
-pub const FEW: usize = 16;
+pub(crate) const FEW: usize = 16;
 
 /// Puts the first `len` of these in place of what a list holds, which is emptied by an error. Few are put one by one: to read
 /// at once what was just written in parts takes longer.

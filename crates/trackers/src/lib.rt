@@ -19,7 +19,6 @@ mod target_set;
 mod tracker;
 mod words;
 
-pub use descending::FEW;
 pub use sparse_set::SparseSet;
 pub use target_set::{TargetSet, make_set};
 pub use tracker::Tracker;

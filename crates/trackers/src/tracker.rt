@@ -1,9 +1,8 @@
-ghost use Rattle.std.specs.Prelude.{◌≡◌, ◌≢◌, ◌<◌, [], length, reverse, All, IfOk, IfSome, OnErr, OnOk, ◌≤◌, take};
+ghost use Rattle.std.specs.Prelude.{◌≡◌, ◌≢◌, ◌<◌, [], length, reverse, All, IfOk, IfSome, OnErr, OnOk};
 ghost use Rattle.std.specs.List.Sorted.{IsStrictlyIncreasing};
 ghost use Rattle.gate_table.specs.Images.{arity_of};
 ghost use Rattle.trackers.specs.Tracked.{Tracked, each_word, undone_one, undone_two, with_I_at, added, anticommuting, letters_at, Fit, restored};
 
-use crate::descending::FEW;
 use flat_lists::FlatLists;
 use gate_table::Gate;
 use pauli_word::Letter;
@@ -83,13 +82,4 @@ pub trait Tracker: Sized {
     fn letters_at(&self, q: usize) -> usize
         requires { q < (tracked self.now).qubits }
         ensures { result ≡ letters_at q (tracked self.now) };
-
-    /// Puts the targets whose words anticommute with the product of these letters at qubits at the start of `hit`, the
-    /// greatest first, and answers how many these are, where it does: a tracker need not. It is for products of two letters
-    /// and few targets.
-    fn few_hit(&self, terms: &[Term], hit: &mut [u32; FEW]) -> Option<usize>
-        requires { All (λ term. term.qubit < (tracked self.now).qubits) terms.now }
-        ensures within { IfSome result (λ len. len ≤ FEW) }
-        ensures hit { IfSome result (λ len. reverse (take len hit.new)
-            ≡ anticommuting terms.now (tracked self.now)) };
 }

@@ -5,8 +5,7 @@ ghost use Rattle.trackers.specs.Tracked.{each_word, fresh, undone_one, undone_tw
 ghost use Rattle.trackers.specs.private.Transposed.{ArePlaces, combined, exchanged_at, multiplied_at};
 
 use crate::column::Column;
-use crate::columns::{keep_columns, list_hit, restore_columns, sum_both};
-use crate::descending::FEW;
+use crate::columns::{keep_columns, list_hit, restore_columns};
 use crate::images::{images_before, is_kept, is_left, is_lost};
 use crate::pairs::{exchange_pair, image_pair, multiply_pair};
 use crate::sparse_set::SparseSet;
@@ -277,12 +276,5 @@ impl<S: TargetSet, A: Allocator + Copy> Tracker for Words<S, A> {
 
     fn letters_at(&self, q: usize) -> usize {
         self.columns[q].letter_count()
-    }
-
-    fn few_hit(&self, terms: &[Term], hit: &mut [u32; FEW]) -> Option<usize> {
-        match terms {
-            [first, second] => sum_both(self.columns.as_slice(), first, second, hit),
-            _ => None,
-        }
     }
 }

@@ -20,5 +20,6 @@ mod tableaus;
 mod takers;
 mod texts;
 mod turns;
+mod undoers;
 mod walks;
 mod words;

@@ -16,33 +16,31 @@ use Rattle.backward.proofs.collapse.collapse.Goals as goal
 pub judge-requires-clause-words : goal.judge-requires-clause-words
 judge-requires-clause-words g c =
     let program = c.args.program.now.listing in
-    let at = c.args.at.now in
-    words_of_size program (drop (at.walk.place + 1) program.steps) (g.T.Tracker.tracked at.tracker) c.requires.passed.words ∙ sym c.target_count-targets.ensures.count
+    words_of_size program (drop (c.args.place + 1) program.steps) (g.T.Tracker.tracked c.args.tracker.now) c.requires.passed.words ∙ sym c.target_count-targets.ensures.count
 
 pub judge-requires-clause-left : goal.judge-requires-clause-left
 judge-requires-clause-left g c =
     let f = c.args.found.now in
     let step = c.requires.step in
-    collapse_is_left c.args.program.now.listing f.settled c.args.at.now.walk.place step.measured (recorded c.args.rec step.inverted c.args.flip) f.latest.items f.left c.well_formed-2.ensures step.step c.requires.passed.judged
+    collapse_is_left c.args.program.now.listing f.settled c.args.place step.measured (recorded c.args.rec step.inverted c.args.flip) f.latest.items f.left c.well_formed-2.ensures step.step c.requires.passed.judged
 
 pub judge-requires-clause-long : goal.judge-requires-clause-long
 judge-requires-clause-long g c =
     let program = c.args.program.now.listing in
     let f = c.args.found.now in
-    λ e. subst (λ n. length (opened n f.latest.items) ≡ n) (sym c.target_count-targets.ensures.count) (latest_of_size program f.settled (c.args.at.now.walk.place + 1) f.latest.items f.left c.requires.passed.judged e)
+    λ e. subst (λ n. length (opened n f.latest.items) ≡ n) (sym c.target_count-targets.ensures.count) (latest_of_size program f.settled (c.args.place + 1) f.latest.items f.left c.requires.passed.judged e)
 
 pub take_back-requires-clause-fits : goal.take_back-requires-clause-fits
 take_back-requires-clause-fits g c =
     let program = c.args.program.now.listing in
-    let at = c.args.at.now in
     let f = c.args.found.now in
     let step = c.requires.step in
     let lists = c.requires.passed.lists in
-    let tracked = g.T.Tracker.tracked at.tracker in
+    let tracked = g.T.Tracker.tracked c.args.tracker.now in
     let qubits : tracked.qubits ≡ program.qubits = ap (λ t. t.qubits) c.requires.passed.words in
     fits_after c.args.program.now (sym c.judge.ensures.words) (sym c.judge.ensures.lists)
     record {
-      words = words_of_size program (drop (at.walk.place + 1) program.steps) tracked c.requires.passed.words;
+      words = words_of_size program (drop (c.args.place + 1) program.steps) tracked c.requires.passed.words;
       long = lists.long;
       few = omega (arith, c.target_count-targets.ensures.count, c.target_count-targets.ensures.few);
       is_record = record_has_set c.args.rec program.records (length f.lists) lists.size (record_named c.args.program.now c.args.rec step.is_record);
@@ -60,20 +58,19 @@ let_go-requires g c =
     (record_has_set c.args.rec program.listing.records (length f.lists) lists.size (record_named program c.args.rec c.requires.step.is_record))
 
 pub returns-in_err-judge : goal.returns-in_err-judge
-returns-in_err-judge g c = over_failed (err_from_is_err_and c.from_residual.result c.from_residual.ensures.1).1 refl (stays_as c.judge.ensures.settled c.judge.ensures.keeps c.judge.ensures.known) refl
+returns-in_err-judge g c = over_failed (err_from_is_err_and c.from_residual.result c.from_residual.ensures.1).1 (stays_as c.judge.ensures.settled c.judge.ensures.keeps c.judge.ensures.known) refl
 
 pub returns-in_err-take_back : goal.returns-in_err-take_back
 returns-in_err-take_back g c =
     let e = c.take_back.ensures in
-    over_failed (err_from_is_err_and c.from_residual-in_err-take_back.result c.from_residual-in_err-take_back.ensures.1).1 refl (stays_as (e.settled ∙ c.judge.ensures.settled) (e.keeps ∙ c.judge.ensures.keeps) (e.known ∙ c.judge.ensures.known)) e.store
+    over_failed (err_from_is_err_and c.from_residual-in_err-take_back.result c.from_residual-in_err-take_back.ensures.1).1 (stays_as (e.settled ∙ c.judge.ensures.settled) (e.keeps ∙ c.judge.ensures.keeps) (e.known ∙ c.judge.ensures.known)) e.store
 
 pub returns : goal.returns
 returns g c =
     let program = c.args.program.now in
-    let at = c.args.at.now in
     let f = c.args.found.now in
-    let place = at.walk.place in
-    let tracked = g.T.Tracker.tracked at.tracker in
+    let place = c.args.place in
+    let tracked = g.T.Tracker.tracked c.args.tracker.now in
     let holds = g.L.LineStore.holds in
     let fits = c.well_formed-2.ensures in
     let now = c.let_go.new.self in
@@ -90,7 +87,6 @@ returns g c =
     record {
       undone =
           record {
-            walk = refl;
             passed =
                 record {
                   within = omega (arith, c.requires.passed.within);

@@ -1,22 +1,11 @@
-use Rattle.std.proofs.Common.{◌<◌, length, take, ap, subst, sym, ◌∙◌}
+use Rattle.std.proofs.Common.{◌<◌, length, ap, subst, sym, ◌∙◌}
 use Rattle.std.specs.Prelude.{All}
 use Rattle.std.proofs.lemmas.Result.{on_ok_weaker}
-use Rattle.circuit_walk.specs.Programs.{KeptProgram}
 use Rattle.step_model.specs.Chances.{chance_at}
 use Rattle.step_model.specs.Targets.{targets_of}
 use Rattle.backward.specs.private.Stretches.{Gives, line_for}
-use Rattle.backward.proofs.LentHits.{all_of_reversed}
 use Rattle.backward.proofs.PassPlaces.{hit_in_range}
 use Rattle.backward.proofs.faults.note_listed.Goals as goal
-
-pub note_reversed-requires-clause-named : goal.note_reversed-requires-clause-named
-note_reversed-requires-clause-named g c =
-    let program = c.args.program.now in
-    let few = take c.in-Some.count c.few_hit.new.hit in
-    subst (λ (p : KeptProgram). All (λ t. t < length (targets_of p.listing)) few) (sym c.requires.store)
-    (all_of_reversed (length (targets_of program.listing)) few
-    (subst (All (λ t. t < length (targets_of program.listing))) (sym c.in-Some.ensures.hit)
-    (hit_in_range program.listing _ (g.T.Tracker.tracked c.args.tracker.now) c.requires.words)))
 
 pub note_line-requires-clause-named : goal.note_line-requires-clause-named
 note_line-requires-clause-named g c =

@@ -13,53 +13,46 @@ use Rattle.backward.proofs.pass.feedback.Goals as goal
 
 pub returns-then-found : goal.returns-then-found
 returns-then-found g c =
-    let at = c.args.at.now in
     record {
-      walk = refl;
-      passed = passed-feedback c.args.program.now.listing at.walk.place (g.T.Tracker.tracked at.tracker) c.args.found.now c.requires.passed c.args.term c.args.rec _ c.requires.step c.if-found.true refl;
+      passed = passed-feedback c.args.program.now.listing c.args.place (g.T.Tracker.tracked c.args.tracker.now) c.args.found.now c.requires.passed c.args.term c.args.rec _ c.requires.step c.if-found.true refl;
       stays = stays_as refl refl refl;
     }
 
 -- nothing changes where no target is hit
 pub returns : goal.returns
 returns g c =
-    let at = c.args.at.now in
-    let t = g.T.Tracker.tracked at.tracker in
+    let t = g.T.Tracker.tracked c.args.tracker.now in
     let found = c.args.found.now in
     let terms : List Term = c.args.term ∷ [] in
-    let p = passed-fed c.args.program.now.listing at.walk.place t found c.requires.passed c.args.term c.args.rec t found.lists [] c.requires.step c.if-found.false refl
+    let p = passed-fed c.args.program.now.listing c.args.place t found c.requires.passed c.args.term c.args.rec t found.lists [] c.requires.step c.if-found.false refl
     (none_hit c.in-Some.hit.now (anticommuting terms t) c.in-Some.ensures (sym c.is_empty.ensures ∙ c.if-is_empty.true))
     (sym (set-get_or found.lists c.args.rec [])) in
     record {
-      walk = refl;
       passed = record { within = p.0; words = p.1; lists = p.2; judged = p.3 };
       stays = stays_as refl refl refl;
     }
 
 pub returns-in_err-hit : goal.returns-in_err-hit
-returns-in_err-hit g c = undone_failed (err_from_is_err_and c.from_residual.result c.from_residual.ensures.1).1 refl (stays_as refl refl refl)
+returns-in_err-hit g c = undone_failed (err_from_is_err_and c.from_residual.result c.from_residual.ensures.1).1 (stays_as refl refl refl)
 
 pub toggle_each-requires-clause-targets : goal.toggle_each-requires-clause-targets
 toggle_each-requires-clause-targets g c =
     let program = c.args.program.now.listing in
-    let at = c.args.at.now in
-    let tracked = g.T.Tracker.tracked at.tracker in
+    let tracked = g.T.Tracker.tracked c.args.tracker.now in
     let terms : List Term = c.args.term ∷ [] in
     let lists = c.requires.passed.lists in
     let within : c.args.rec < length c.args.found.now.lists = omega (arith, c.requires.step.is_record, lists.size) in
     let long : length (get_or c.args.found.now.lists c.args.rec []) ≡ length (targets_of program) = lists.long c.args.rec [] within in
     subst (λ n. All (λ t. t < n) c.as_slice.result.now) (sym long)
     (subst (All (λ t. t < length (targets_of program))) (sym (c.as_slice.ensures.value ∙ c.in_ok-hit.ensures.hit))
-    (hit_in_range program terms tracked (words_of_size program (drop (at.walk.place + 1) program.steps) tracked c.requires.passed.words)))
+    (hit_in_range program terms tracked (words_of_size program (drop (c.args.place + 1) program.steps) tracked c.requires.passed.words)))
 
 pub returns-2 : goal.returns-2
 returns-2 g c =
-    let at = c.args.at.now in
     record {
-      walk = refl;
       passed =
           on_ok_weaker c.toggle_each.result
-          (λ h. let p = passed-fed c.args.program.now.listing at.walk.place (g.T.Tracker.tracked at.tracker) c.args.found.now c.requires.passed c.args.term c.args.rec _ c.toggle_each.new.self c.as_slice.result.now c.requires.step c.if-found.false c.hit.ensures.same (c.as_slice.ensures.value ∙ c.in_ok-hit.ensures.hit) h in
+          (λ h. let p = passed-fed c.args.program.now.listing c.args.place (g.T.Tracker.tracked c.args.tracker.now) c.args.found.now c.requires.passed c.args.term c.args.rec _ c.toggle_each.new.self c.as_slice.result.now c.requires.step c.if-found.false c.hit.ensures.same (c.as_slice.ensures.value ∙ c.in_ok-hit.ensures.hit) h in
           record { within = p.0; words = p.1; lists = p.2; judged = p.3 })
           c.toggle_each.ensures;
       stays = stays_as refl refl refl;

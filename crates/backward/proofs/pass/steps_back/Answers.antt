@@ -1,37 +1,43 @@
-use Rattle.std.proofs.Common.{◌≡◌, ◌+◌, refl, subst, ◌∙◌, arith}
+-- What was lent to the undoer is as it was left, where the walk stands.
+use Rattle.std.proofs.Common.{rules, refl, sym, subst}
 use Rattle.std.specs.Prelude.{reverse}
 use Rattle.std.proofs.lemmas.Result.{on_ok_weaker}
+use Rattle.circuit_walk.specs.Programs.{KeptProgram}
+use Rattle.backward.specs.private.Passes.{IsPassed}
+use Rattle.backward.specs.private.Steps.{AreGoneOver}
 use Rattle.backward.specs.private.Stretches.{Gives, lines_between}
-use Rattle.backward.proofs.PassSteps.{walk_end}
-use Rattle.backward.proofs.StepLemmas.{stands_before}
+use Rattle.backward.proofs.StepLemmas.{undoing_none}
 use Rattle.backward.proofs.pass.steps_back.Goals as goal
 
-pub go_over-requires-clause-before : goal.go_over-requires-clause-before
-go_over-requires-clause-before g c =
-    let e = c.previous_step.ensures in
-    stands_before c.args.program.now c.args.at.now c.previous_step.result c.requires.stands c.requires.to e.program e.place refl c.in-Some.is e.step
-
-pub returns-in-Some : goal.returns-in-Some
-returns-in-Some g c =
-    let holds = g.L.LineStore.holds in
-    let now = c.go_over.new in
-    let e = c.go_over.ensures in
-    let back : c.previous_step.new.self.place + 1 ≡ c.args.at.now.walk.place = omega (arith, c.previous_step.ensures.place, c.requires.to) in
-    record {
-      program_is = e.program_is ∙ c.previous_step.ensures.program;
-      above = e.above;
-      below = omega (arith, back, e.below);
-      passed = e.passed;
-      stays = e.stays;
-      lines =
-          on_ok_weaker c.go_over.result
-          (subst (λ k. Gives (holds c.args.lines.now) (holds now.lines) (reverse (lines_between c.args.program.now.listing now.at.walk.place k))) back)
-          e.lines;
-      store = e.store;
-    }
-
--- there is a step
-pub returns-in-None : goal.returns-in-None
-returns-in-None g c =
+pub undo_some-requires-clause-stands : goal.undo_some-requires-clause-stands
+undo_some-requires-clause-stands g c =
+    let s = c.requires.stands in
     let walk = c.args.at.now.walk in
-    absurd (omega (arith, walk_end walk.program c.args.program.now walk.place c.previous_step.result c.requires.stands.program_is c.in-None.is c.requires.stands.passed.within c.previous_step.ensures.step, c.requires.to))
+    (refl, refl, refl, c.place.ensures, undoing_none c.args.program.now walk.program c.place.result walk.place c.args.at.now.tracker c.args.found.now c.args.lines.now s.program_is c.place.ensures s.store s.passed)
+
+pub shape_of-at : goal.shape_of-at
+shape_of-at g c = sym c.undo_some.ensures.undone.lasts.0
+
+pub returns : goal.returns
+returns g c =
+    let program = c.args.program.now in
+    let s = c.requires.stands in
+    let walk = c.args.at.now.walk in
+    let holds = g.L.LineStore.holds in
+    let tracked = g.T.Tracker.tracked in
+    let e = c.undo_some.ensures in
+    let now = c.undo_some.new.undoer in
+    let place = c.undo_some.new.self.place in
+    let undone = e.undone in
+    let all : AreGoneOver tracked g.L.LineStore.program holds program.listing c.args.to walk.place c.args.at.now (record { walk = c.undo_some.new.self; tracker = now.tracker.now }) c.args.found.now now.found.now c.args.lines.now now.lines.now c.undo_some.result = record {
+      program_is = e.program;
+      above = e.above;
+      below = e.below;
+      passed = on_ok_weaker c.undo_some.result (λ u. subst (λ (p : KeptProgram). IsPassed p.listing place (tracked now.tracker.now) now.found.now) s.program_is u.4.passed) undone.stands;
+      stays = undone.lasts.3;
+      lines = on_ok_weaker c.undo_some.result (λ u. subst (λ (p : KeptProgram). Gives (holds c.args.lines.now) (holds now.lines.now) (reverse (lines_between p.listing place walk.place))) s.program_is (subst (λ k. Gives (holds c.args.lines.now) (holds now.lines.now) (reverse (lines_between walk.program.listing place k))) c.place.ensures u.4.lines)) undone.stands;
+      store = undone.lasts.4;
+    } in
+    let found = undone.lasts.1 in
+    let lines = undone.lasts.2 in
+    search rules

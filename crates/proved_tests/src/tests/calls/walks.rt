@@ -1,7 +1,9 @@
-//! Walks over small circuits, step by step against lists that were written out by hand; takers take the same steps.
+//! Walks over small circuits, step by step against lists that were written out by hand; takers take the same steps, and undoers
+//! undo them.
 
-use crate::tests::calls::step_words::{digit, is_fault, is_kind, is_step};
+use crate::tests::calls::step_words::{digit, is_step};
 use crate::tests::calls::takers::{takes_each_fault, takes_steps};
+use crate::tests::calls::undoers::undoes_steps;
 use crate::tests::tables::parts_of;
 use circuit_walk::{Program, Walk};
 use std::alloc::{AllocError, Global};
@@ -47,15 +49,6 @@ fn is_previous(walk: &mut Walk<'_, '_, Global>, word: &[u8]) -> bool {
     }
 }
 
-// Whether the step before a walk is answered as a fault, and gone back over, just where it is one.
-fn answers_fault(walk: &Walk<'_, '_, Global>, word: &[u8]) -> bool {
-    let mut walk = walk.copy();
-    match walk.previous_fault() {
-        Some((name, letters)) => is_fault(name, letters, word) && is_next(&mut walk, word),
-        None => !is_kind(word, b'F') && is_previous(&mut walk, word),
-    }
-}
-
 // Goes over each step forth, back and forth again, and then back to the start.
 fn walks_over(program: &Program<'_, Global>, words: &str) -> bool {
     let mut walk = Walk::start(program);
@@ -77,12 +70,10 @@ fn walks_back_over(program: &Program<'_, Global>, words: &str) -> bool {
     let mut walk = Walk::end(program);
     let mut all = walk.next_step().is_none();
     for word in words.split_whitespace().rev() {
-        all &= answers_fault(&walk, word.as_bytes());
         all &= is_previous(&mut walk, word.as_bytes());
         all &= is_next(&mut walk, word.as_bytes());
         all &= is_previous(&mut walk, word.as_bytes());
     }
-    all &= walk.previous_fault().is_none();
     all &= walk.previous_step().is_none();
     for word in words.split_whitespace() {
         all &= is_next(&mut walk, word.as_bytes());
@@ -97,6 +88,7 @@ fn is_of_row(program: &Program<'_, Global>, counts: &str, words: &str) -> bool {
         & walks_over(program, words)
         & walks_back_over(program, words)
         & takes_steps(program, words)
+        & undoes_steps(program, words)
         & takes_each_fault(program, words)
 }
 

@@ -1,0 +1,22 @@
+-- The collapse of the product.
+use Rattle.std.proofs.Common.{◌∙◌}
+use Rattle.circuit_walk.proofs.Undoings.{goes_back, hands_last}
+use Rattle.circuit_walk.proofs.course.Course.undo_product.Goals as goal
+
+pub step_back-requires-clause-course : goal.step_back-requires-clause-course
+step_back-requires-clause-course g c = (c.args.program.now, c.requires.place.course)
+
+pub product-seen-requires-clause-facing : goal.product-seen-requires-clause-facing
+product-seen-requires-clause-facing g c = c.step_back.ensures.next
+
+pub product-seen-requires-clause-operation : goal.product-seen-requires-clause-operation
+product-seen-requires-clause-operation g c = c.step_back.ensures.same ∙ c.requires.operation ∙ c.requires.kind
+
+pub undo_collapse_word-requires : goal.undo_collapse_word-requires
+undo_collapse_word-requires g c =
+    hands_last g.U.StepUndoer.stands g.U.StepUndoer.lasts c.args.program.now c.args.undoer.now c.args.self.now c.step_back.new.self c.requires.place (c.step_back.ensures.course c.args.program.now c.requires.place.course) c.step_back.ensures.facing c.step_back.ensures.place _ c.product-seen.ensures
+
+pub returns : goal.returns
+returns g c =
+    goes_back g.U.StepUndoer.stands g.U.StepUndoer.lasts c.args.program.now c.args.undoer.now c.args.self.now c.step_back.new.self c.requires.place (c.step_back.ensures.course c.args.program.now c.requires.place.course) c.step_back.ensures.facing c.step_back.ensures.place _ c.product-seen.ensures
+    c.undo_collapse_word.new.self c.undo_collapse_word.result c.step_back.ensures.same c.undo_collapse_word.ensures
