@@ -207,6 +207,22 @@ class Instructions(ProgramTest):
         same, changing = (executed(["run"], text) for text in texts)
         self.assertLess(4 * changing, 5 * same)
 
+    def test_targets_that_are_numbers(self):
+        """Of a line of qubits one look shows that nothing is wrong. Where a record is among them one question is asked after
+        another."""
+        qubits, fed = (executed(["run"], "M 0 1\n" + line * 2000) for line in ("CX 0 1\n", "CX rec[-1] 1\n"))
+        self.assertLess(7 * qubits, 6 * fed)
+
+    def test_products_in_order(self):
+        """Of a product in the order of its qubits no word is made where the outcome is decided. Where the order is another, and the
+        letters are many, it is."""
+        first = "RX" + named("", range(20)) + "\n"
+        ordered, mixed = (
+            executed(["run"], first + "REPEAT 2000 {\n    MPP " + "*".join(f"X{qubit}" for qubit in qubits) + "\n}\n")
+            for qubits in (range(20), [*range(0, 20, 2), *range(1, 20, 2)])
+        )
+        self.assertLess(4 * ordered, 3 * mixed)
+
 
 class Caches(ProgramTest):
     def test_row_updates_of_measurements_wait_for_others(self):
